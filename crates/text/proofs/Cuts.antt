@@ -1,0 +1,106 @@
+-- Lines and fields by the place of the next byte 10 or tab. Assumes nothing.
+use mathlib.Core.Path.{_≡_, refl, sym, ap, _∙_}
+use mathlib.Core.Bool.{Bool, true, false, cond, _&&_}
+use mathlib.Core.List.{List, [], _∷_}
+use Prim.Native.Nat.{ℕ, zero, suc, _+_, _-_, _≤_, _<_}
+use native.Mathlib.Omega.{arith}
+use native.Mathlib.Numerals.{add-one}
+use lib.Dec.{eqb, ltb}
+use lib.ListN.{length, getD, take, drop}
+use mathlib.Core.Logic.{inl, inr}
+use Rattle.std.proofs.shelf.Lists.{at-drop-more, at-drop-all, take-all, take-rest, drop-drop, length-drop}
+use Rattle.std.proofs.shelf.Tests.{cond-both, cond-true, cond-false, eq-eqb, ne-eqb, cases-lt}
+use Rattle.text.specs.Lines.{every, onto, index-of, lines, fields}
+
+-- the place is within the text
+pub index-le : (b : ℕ) (xs : List ℕ) → index-of b xs ≤ length xs
+index-le b [] = omega arith
+index-le b (x ∷ xs) = cond-both (eqb x b) 0 (suc (index-of b xs)) (λ n. n ≤ suc (length xs)) (λ e. omega arith) (λ e. omega (arith, index-le b xs))
+
+-- A text with a byte 10 begins with a line; one without has none.
+pub first-line : (xs : List ℕ) → index-of 10 xs < length xs → lines xs ≡ take (index-of 10 xs) xs ∷ lines (drop (suc (index-of 10 xs)) xs)
+first-line [] h = absurd (omega arith)
+first-line (x ∷ xs) h = 
+    elim (eqb x 10) as (λ t. cond t 0 (suc (index-of 10 xs)) < suc (length xs) → cond t ([] ∷ lines xs) (onto x (lines xs)) ≡ take (cond t 0 (suc (index-of 10 xs))) (x ∷ xs) ∷ lines (drop (suc (cond t 0 (suc (index-of 10 xs)))) (x ∷ xs))) [
+      true ↦ λ _. refl
+    | false ↦ λ k. ap (onto x) (first-line xs (omega arith)) ] h
+
+pub no-line : (xs : List ℕ) → length xs ≤ index-of 10 xs → lines xs ≡ []
+no-line [] h = refl
+no-line (x ∷ xs) h =
+    elim (eqb x 10) as (λ t. suc (length xs) ≤ cond t 0 (suc (index-of 10 xs)) → cond t ([] ∷ lines xs) (onto x (lines xs)) ≡ []) [
+      true ↦ λ k. absurd (omega arith)
+    | false ↦ λ k. ap (onto x) (no-line xs (omega arith)) ] h
+
+-- A line with a tab has a first field and more; one without is one field.
+pub first-of-more : (xs : List ℕ) → index-of 9 xs < length xs → fields xs ≡ take (index-of 9 xs) xs ∷ fields (drop (suc (index-of 9 xs)) xs)
+first-of-more [] h = absurd (omega arith)
+first-of-more (x ∷ xs) h = 
+    elim (eqb x 9) as (λ t. cond t 0 (suc (index-of 9 xs)) < suc (length xs) → cond t ([] ∷ fields xs) (onto x (fields xs)) ≡ take (cond t 0 (suc (index-of 9 xs))) (x ∷ xs) ∷ fields (drop (suc (cond t 0 (suc (index-of 9 xs)))) (x ∷ xs))) [
+      true ↦ λ _. refl
+    | false ↦ λ k. ap (onto x) (first-of-more xs (omega arith)) ] h
+
+pub only-field : (xs : List ℕ) → length xs ≤ index-of 9 xs → fields xs ≡ xs ∷ []
+only-field [] h = refl
+only-field (x ∷ xs) h =
+    elim (eqb x 9) as (λ t. suc (length xs) ≤ cond t 0 (suc (index-of 9 xs)) → cond t ([] ∷ fields xs) (onto x (fields xs)) ≡ (x ∷ xs) ∷ []) [
+      true ↦ λ k. absurd (omega arith)
+    | false ↦ λ k. ap (onto x) (only-field xs (omega arith)) ] h
+
+pub first-field-is : (xs : List ℕ) → getD (fields xs) 0 [] ≡ take (index-of 9 xs) xs
+first-field-is xs = elim (cases-lt (index-of 9 xs) (length xs)) [
+    inl h ↦ ap (λ fs. getD fs 0 []) (first-of-more xs h)
+  | inr h ↦ ap (λ fs. getD fs 0 []) (only-field xs h) ∙ sym (take-all (index-of 9 xs) xs h) ]
+
+-- where there is a second field, a tab comes before it
+pub next-field : (xs : List ℕ) → 1 < length (fields xs) → (index-of 9 xs < length xs) × (fields (drop (suc (index-of 9 xs)) xs) ≡ drop 1 (fields xs))
+next-field xs more = elim (cases-lt (index-of 9 xs) (length xs)) [
+    inl h ↦ (h, sym (ap (drop 1) (first-of-more xs h)))
+  | inr h ↦ absurd (omega (arith, ap length (only-field xs h))) ]
+
+-- the field `k` of a line begins at a place
+abbrev pub Begins : List ℕ → ℕ → ℕ → Type 0
+Begins xs k at = (at ≤ length xs) × (fields (drop at xs) ≡ drop k (fields xs))
+
+-- one field on
+pub field-on : (xs : List ℕ) (at k r : ℕ) → Begins xs k at → r ≡ index-of 9 (take (length xs - at) (drop at xs)) → k + 1 < length (fields xs) → Begins xs (k + 1) (at + (r + 1))
+field-on xs at k r (within, same) is more =
+    let rest = drop at xs in
+    let here : r ≡ index-of 9 rest = is ∙ ap (index-of 9) (take-rest xs at) in
+    let left : 1 < length (fields rest) = rw same (rw length-drop (omega arith)) in
+    let next = next-field rest left in
+    let size : length rest ≡ length xs - at = length-drop at xs in
+    let apart : drop (at + (r + 1)) xs ≡ drop (suc (index-of 9 rest)) rest =
+      ap (λ n. drop (at + n) xs) (add-one r ∙ ap suc here) ∙ sym (drop-drop (suc (index-of 9 rest)) at xs) in
+    (omega (arith, next .0), ap fields apart ∙ next .1 ∙ ap (drop 1) same ∙ drop-drop 1 k (fields xs))
+
+-- Steps of a loop over the bytes of a text.
+module _ (b : ℕ) (xs : List ℕ) (i : ℕ) (h : i < length xs) where
+  pub index-here : getD xs i 0 ≡ b → index-of b (drop i xs) ≡ 0
+  index-here e = at-drop-more (index-of b) xs i 0 h ∙ cond-true (eqb (getD xs i 0) b) 0 _ (eq-eqb (getD xs i 0) b e)
+
+  pub index-next : (getD xs i 0 ≡ b → ⊥) → index-of b (drop i xs) ≡ suc (index-of b (drop (i + 1) xs))
+  index-next n = at-drop-more (index-of b) xs i 0 h ∙ cond-false (eqb (getD xs i 0) b) 0 _ (ne-eqb (getD xs i 0) b n)
+
+pub index-none : (b : ℕ) (xs : List ℕ) (i : ℕ) → length xs ≤ i → index-of b (drop i xs) ≡ 0
+index-none b xs i h = at-drop-all (index-of b) xs i h
+
+length-onto : (x : ℕ) (ps : List (List ℕ)) → length (onto x ps) ≡ length ps
+length-onto x [] = refl
+length-onto x (p ∷ ps) = refl
+
+module _ (xs : List ℕ) (i : ℕ) (h : i < length xs) where
+  pub count-tab : getD xs i 0 ≡ 9 → length (fields (drop i xs)) ≡ suc (length (fields (drop (i + 1) xs)))
+  count-tab e = ap length (at-drop-more fields xs i 0 h ∙ cond-true (eqb (getD xs i 0) 9) _ _ (eq-eqb (getD xs i 0) 9 e))
+
+  pub count-other : (getD xs i 0 ≡ 9 → ⊥) → length (fields (drop i xs)) ≡ length (fields (drop (i + 1) xs))
+  count-other n =
+      ap length (at-drop-more fields xs i 0 h ∙ cond-false (eqb (getD xs i 0) 9) _ _ (ne-eqb (getD xs i 0) 9 n))
+      ∙ length-onto (getD xs i 0) (fields (drop (i + 1) xs))
+
+module _ {A : Type 0} (p : A → Bool) (xs : List A) (i : ℕ) (d : A) (h : i < length xs) where
+  pub every-next : p (getD xs i d) ≡ true → every p (drop i xs) ≡ every p (drop (i + 1) xs)
+  every-next e = at-drop-more (every p) xs i d h ∙ ap (λ t. t && every p (drop (i + 1) xs)) e
+
+  pub every-fails : p (getD xs i d) ≡ false → every p (drop i xs) ≡ false
+  every-fails e = at-drop-more (every p) xs i d h ∙ ap (λ t. t && every p (drop (i + 1) xs)) e
