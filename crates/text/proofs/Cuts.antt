@@ -1,5 +1,5 @@
 -- Lines and fields by the place of the next byte 10 or tab. Assumes nothing.
-use mathlib.Core.Path.{_≡_, refl, sym, ap, _∙_}
+use mathlib.Core.Path.{_≡_, refl, sym, ap, ap₂, _∙_}
 use mathlib.Core.Bool.{Bool, true, false, cond, _&&_}
 use mathlib.Core.List.{List, [], _∷_}
 use Prim.Native.Nat.{ℕ, zero, suc, _+_, _-_, _≤_, _<_}
@@ -104,3 +104,27 @@ module _ {A : Type 0} (p : A → Bool) (xs : List A) (i : ℕ) (d : A) (h : i < 
 
   pub every-fails : p (getD xs i d) ≡ false → every p (drop i xs) ≡ false
   every-fails e = at-drop-more (every p) xs i d h ∙ ap (λ t. t && every p (drop (i + 1) xs)) e
+
+-- the fields of what is left of a text, by the end of the first of them
+module _ (xs : List ℕ) (at end : ℕ) (is : end ≡ at + index-of 9 (drop at xs)) where
+  size : end - at ≡ index-of 9 (drop at xs)
+  size = omega arith
+
+  pub fields-left : end < length xs → fields (drop at xs) ≡ take (end - at) (drop at xs) ∷ fields (drop (end + 1) xs)
+  fields-left h =
+      let rest = drop at xs in
+      let i = index-of 9 rest in
+      let more : i < length rest = rw length-drop (omega arith) in
+      let on : drop (suc i) rest ≡ drop (end + 1) xs = drop-drop (suc i) at xs ∙ ap (λ n. drop n xs) (omega arith) in
+      first-of-more rest more ∙ ap₂ (λ n ys. take n rest ∷ fields ys) (sym size) on
+
+  pub fields-last : end ≡ length xs → fields (drop at xs) ≡ take (end - at) (drop at xs) ∷ []
+  fields-last h =
+      let rest = drop at xs in
+      let none : length rest ≤ end - at = rw length-drop (omega arith) in
+      only-field rest (rw length-drop (omega arith)) ∙ ap (λ ys. ys ∷ []) (sym (take-all (end - at) rest none))
+
+  pub fields-first : end ≤ length xs → fields (drop at xs) ≡ take (end - at) (drop at xs) ∷ drop 1 (fields (drop at xs))
+  fields-first h = elim (cases-lt end (length xs)) [
+      inl k ↦ (let e = fields-left k in e ∙ ap (λ fs. take (end - at) (drop at xs) ∷ drop 1 fs) (sym e))
+    | inr k ↦ (let e = fields-last (omega arith) in e ∙ ap (λ fs. take (end - at) (drop at xs) ∷ drop 1 fs) (sym e)) ]

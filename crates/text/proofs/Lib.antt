@@ -1,1 +1,5 @@
 pub mod Cuts
+pub mod Names
+pub mod Says
+pub mod Entries
+pub mod Decimals

@@ -158,13 +158,17 @@ abbrev pub entry-of : Form → List ℕ → Entry
 entry-of f cs = record { form = f; children = cs }
 
 -- a literal: a variable's number, with a minus sign in front for off
-abbrev pub said-literal : Bool → Option ℕ → Said Entry
-said-literal on None = Err reason.Number
-said-literal on (Some v) = Ok (entry-of (Literal v on) [])
+abbrev pub literal-of : Bool → Option ℕ → Option Form
+literal-of on None = None
+literal-of on (Some v) = Some (Literal v on)
 
-abbrev pub literal-says : List ℕ → Said Entry
-literal-says [] = Err reason.Number
-literal-says (b ∷ bs) = cond (eqb b 45) (said-literal false (number bs)) (said-literal true (number (b ∷ bs)))
+abbrev pub literal : List ℕ → Option Form
+literal [] = None
+literal (b ∷ bs) = cond (eqb b 45) (literal-of false (number bs)) (literal-of true (number (b ∷ bs)))
+
+abbrev pub said-literal : Option Form → Said Entry
+said-literal None = Err reason.Number
+said-literal (Some f) = Ok (entry-of f [])
 
 abbrev pub is-number : List ℕ → Bool
 is-number f = isSome (number f)
@@ -187,7 +191,7 @@ fork-says fs = three-fields fs (λ v a b. then (number-field v) (λ n. then (num
 unfoldable pub entry-says : Kind → List (List ℕ) → Said Entry
 entry-says kind.Header fs = Err reason.Line
 entry-says kind.Variable fs = Err reason.Line
-entry-says kind.Literal fs = one-field fs literal-says
+entry-says kind.Literal fs = one-field fs (λ f. said-literal (literal f))
 entry-says kind.And fs = and-says fs
 entry-says kind.Fork fs = fork-says fs
 entry-says kind.True fs = no-field fs (Ok (entry-of True []))
@@ -217,16 +221,16 @@ section-of s = cond (eqb (s .line) 1) section.Header (cond (ltb (length (s .vari
 abbrev pub is-complete : Sofar → Bool
 is-complete s = ltb 1 (s .line) && leb (s .header .variables) (length (s .variables)) && leb (s .header .nodes) (length (s .nodes))
 
--- what a line is by its first field
+-- what a line is by its first field, which is one letter
+abbrev pub by-letter : ℕ → Kind
+by-letter b =
+    cond (eqb b 71) kind.Header (cond (eqb b 86) kind.Variable (cond (eqb b 76) kind.Literal (cond (eqb b 65) kind.And
+    (cond (eqb b 79) kind.Fork (cond (eqb b 84) kind.True (cond (eqb b 70) kind.False kind.Other))))))
+
 abbrev pub kind-of : List ℕ → Kind
-kind-of f =
-    cond (sameBytes f (71 ∷ [])) kind.Header
-    (cond (sameBytes f (86 ∷ [])) kind.Variable
-    (cond (sameBytes f (76 ∷ [])) kind.Literal
-    (cond (sameBytes f (65 ∷ [])) kind.And
-    (cond (sameBytes f (79 ∷ [])) kind.Fork
-    (cond (sameBytes f (84 ∷ [])) kind.True
-    (cond (sameBytes f (70 ∷ [])) kind.False kind.Other))))))
+kind-of [] = kind.Other
+kind-of (b ∷ []) = by-letter b
+kind-of (b ∷ c ∷ bs) = kind.Other
 
 -- the children do not pass the header's count, and reach it at the last node
 abbrev pub children-fit : Sofar → ℕ → Bool

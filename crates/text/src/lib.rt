@@ -3,6 +3,7 @@ pub mod fault;
 pub mod fields;
 pub mod kind;
 pub mod lines;
+pub mod nodes;
 pub mod numeral;
 pub mod reader;
 pub mod record;

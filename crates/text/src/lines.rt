@@ -43,7 +43,11 @@ pub fn header_line(line: &[u8], node_room: usize, child_room: usize) -> Result<H
     if node_room < nodes as usize || child_room < children as usize {
         return Err(Reason::Store);
     }
-    Ok(Header { variables, nodes, children })
+    Ok(Header {
+        variables,
+        nodes,
+        children,
+    })
 }
 
 /// The role that the letter of a variable line gives.
@@ -71,11 +75,12 @@ pub fn variable_line(line: &[u8], before: &Variables) -> Result<Variable, Reason
         return Err(Reason::Variable);
     };
     let name = field(line, 3);
+    let due = before.as_slice().len() + 1;
     let options = match role {
         Role::Option => before.options() + 1,
         Role::Chance => before.options(),
     };
-    if number as usize != before.count as usize + 1
+    if number as usize != due
         || name.len() < 1
         || name.len() > 24
         || before.is_named(name)
@@ -83,5 +88,8 @@ pub fn variable_line(line: &[u8], before: &Variables) -> Result<Variable, Reason
     {
         return Err(Reason::Variable);
     }
-    Ok(Variable { role, name: Name::new(name) })
+    Ok(Variable {
+        role,
+        name: Name::new(name),
+    })
 }

@@ -21,12 +21,15 @@ impl Name {
     pub fn new(text: &[u8]) -> Name
         ensures { λ r. ⌜ r ≡ name-of (now (text .entry)) ⌝ }
     {
-        let length = if text.len() < 24 { text.len() } else { 24 };
+        let length = text.len().min(24);
         let mut bytes = [0; 24];
         for i in 0..length {
             bytes[i] = text[i];
         }
-        Name { bytes, length: length as u8 }
+        Name {
+            bytes,
+            length: length as u8,
+        }
     }
 
     /// The name's bytes.
@@ -42,15 +45,29 @@ impl Variables {
     pub fn none() -> Variables
         ensures { λ r. ⌜ r ≡ variables-of [] ⌝ }
     {
-        let blank = Variable { role: Role::Chance, name: Name::new(&[]) };
-        Variables { all: [blank; 64], count: 0 }
+        let blank = Variable {
+            role: Role::Chance,
+            name: Name::new(&[]),
+        };
+        Variables {
+            all: [blank; 64],
+            count: 0,
+        }
+    }
+
+    /// The variables in their order.
+    pub(crate) fn as_slice(&self) -> &[Variable]
+        ensures { λ r. ⌜ now r ≡ listed (now (self .entry)) ⌝ }
+    {
+        &self.all[0..self.count as usize]
     }
 
     /// Whether one of the variables has this name.
     pub fn is_named(&self, name: &[u8]) -> bool
         ensures { λ r. ⌜ r ≡ is-named (now (name .entry)) (listed (now (self .entry))) ⌝ }
     {
-        for v in &self.all[0..self.count as usize] {
+        let all = self.as_slice();
+        for v in all {
             if same_bytes(v.name.as_bytes(), name) {
                 return true;
             }
@@ -62,8 +79,9 @@ impl Variables {
     pub fn options(&self) -> usize
         ensures { λ r. ⌜ r ≡ options (listed (now (self .entry))) ⌝ }
     {
+        let all = self.as_slice();
         let mut count = 0;
-        for v in &self.all[0..self.count as usize] {
+        for v in all {
             match v.role {
                 Role::Option => count += 1,
                 Role::Chance => {}
