@@ -85,7 +85,7 @@ module _ (b : ℕ) (xs : List ℕ) (i : ℕ) (h : i < length xs) where
 pub index-none : (b : ℕ) (xs : List ℕ) (i : ℕ) → length xs ≤ i → index-of b (drop i xs) ≡ 0
 index-none b xs i h = at-drop-all (index-of b) xs i h
 
-length-onto : (x : ℕ) (ps : List (List ℕ)) → length (onto x ps) ≡ length ps
+pub length-onto : (x : ℕ) (ps : List (List ℕ)) → length (onto x ps) ≡ length ps
 length-onto x [] = refl
 length-onto x (p ∷ ps) = refl
 

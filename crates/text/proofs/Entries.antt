@@ -20,16 +20,22 @@ use Rattle.text.specs.Format.{Said, Entry, then, provided, no-field, one-field
 use Rattle.std.specs.declared.result.Result.{Result}
 use Rattle.text.specs.declared.nodes.NodeLine.{NodeLine}
 use Rattle.text.specs.Steps.{Answers, Heard}
+use Rattle.text.proofs.Cuts.{length-onto}
 use Rattle.text.proofs.Says.{four, not-four}
 
 -- a line has a field
 pub some-field : (xs : List ℕ) → 1 ≤ length (fields xs)
 some-field [] = omega arith
-some-field (x ∷ xs) = elim (eqb x 9) as (λ t. 1 ≤ length (cond t ([] ∷ fields xs) (onto x (fields xs)))) [ true ↦ omega arith | false ↦ kept (fields xs) (some-field xs) ]
-  where
-    kept : (fs : List (List ℕ)) → 1 ≤ length fs → 1 ≤ length (onto x fs)
-    kept [] h = h
-    kept (f ∷ fs) h = omega arith
+some-field (x ∷ xs) = elim (eqb x 9) as (λ t. 1 ≤ length (cond t ([] ∷ fields xs) (onto x (fields xs)))) [
+    true ↦ omega arith
+  | false ↦ omega (arith, some-field xs, length-onto x (fields xs)) ]
+
+-- and at most one more than it has bytes
+pub few-fields : (xs : List ℕ) → length (fields xs) ≤ length xs + 1
+few-fields [] = omega arith
+few-fields (x ∷ xs) = elim (eqb x 9) as (λ t. length (cond t ([] ∷ fields xs) (onto x (fields xs))) ≤ suc (length xs) + 1) [
+    true ↦ omega (arith, few-fields xs)
+  | false ↦ omega (arith, few-fields xs, length-onto x (fields xs)) ]
 
 -- a leaf has no field but the first
 pub leaf : (fs : List (List ℕ)) (f : Form) → length fs ≡ 1 → no-field (drop 1 fs) (Ok (entry-of f [])) ≡ Ok (entry-of f (map number-or-zero (drop 1 fs)))

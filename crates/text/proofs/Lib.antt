@@ -3,3 +3,5 @@ pub mod Names
 pub mod Says
 pub mod Entries
 pub mod Decimals
+pub mod Stores
+pub mod Limits

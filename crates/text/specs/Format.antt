@@ -213,13 +213,18 @@ pub record Sofar : Type 0 where
 abbrev pub nothing-yet : Sofar
 nothing-yet = record { header = header-of 0 0 0; variables = []; nodes = []; children = []; line = 1; place = 0 }
 
--- the section that the next line belongs to
-abbrev pub section-of : Sofar → Section
-section-of s = cond (eqb (s .line) 1) section.Header (cond (ltb (length (s .variables)) (s .header .variables)) section.Variables section.Nodes)
+-- the section that the next line belongs to, after so many variables
+abbrev pub section-at : Header → (line variables : ℕ) → Section
+section-at h line variables = cond (eqb line 1) section.Header (cond (ltb variables (h .variables)) section.Variables section.Nodes)
 
--- every line that is due has been read
-abbrev pub is-complete : Sofar → Bool
-is-complete s = ltb 1 (s .line) && leb (s .header .variables) (length (s .variables)) && leb (s .header .nodes) (length (s .nodes))
+-- whether every line that is due has been read
+abbrev pub all-read : Header → (line variables nodes : ℕ) → Bool
+all-read h line variables nodes = ltb 1 line && leb (h .variables) variables && leb (h .nodes) nodes
+
+-- whether a node after `nodes` others, which have `used` children, may have `count` more: the children do not pass
+-- the header's count, and reach it at the last node
+abbrev pub fitting : Header → (nodes used count : ℕ) → Bool
+fitting h nodes used count = leb (used + count) (h .children) && (ltb (nodes + 1) (h .nodes) || leb (h .children) (used + count))
 
 -- what a line is by its first field, which is one letter
 abbrev pub by-letter : ℕ → Kind
@@ -231,12 +236,6 @@ abbrev pub kind-of : List ℕ → Kind
 kind-of [] = kind.Other
 kind-of (b ∷ []) = by-letter b
 kind-of (b ∷ c ∷ bs) = kind.Other
-
--- the children do not pass the header's count, and reach it at the last node
-abbrev pub children-fit : Sofar → ℕ → Bool
-children-fit s count =
-    leb (length (s .children) + count) (s .header .children)
-    && (ltb (length (s .nodes) + 1) (s .header .nodes) || leb (s .header .children) (length (s .children) + count))
 
 -- one line on, which has `size` bytes before its byte 10
 abbrev pub with-header : Sofar → ℕ → Header → Sofar
@@ -277,12 +276,12 @@ is-variable kind.Other = false
 abbrev pub by-section : Rooms → Sofar → ℕ → Section → Kind → List (List ℕ) → Said Sofar
 by-section rooms s size section.Header k fs = provided (is-header k) reason.Line (then (header-says rooms fs) (λ h. Ok (with-header s size h)))
 by-section rooms s size section.Variables k fs = provided (is-variable k) reason.Line (then (variable-says (s .variables) fs) (λ v. Ok (with-variable s size v)))
-by-section rooms s size section.Nodes k fs = then (entry-says k fs) (λ e. provided (children-fit s (length (e .children))) reason.Children (Ok (with-node s size e)))
+by-section rooms s size section.Nodes k fs = then (entry-says k fs) (λ e. provided (fitting (s .header) (length (s .nodes)) (length (s .children)) (length (e .children))) reason.Children (Ok (with-node s size e)))
 
 -- the first field says what the line is
 abbrev pub by-fields : Rooms → Sofar → ℕ → List (List ℕ) → Said Sofar
 by-fields rooms s size [] = Err reason.Line
-by-fields rooms s size (f ∷ fs) = by-section rooms s size (section-of s) (kind-of f) fs
+by-fields rooms s size (f ∷ fs) = by-section rooms s size (section-at (s .header) (s .line) (length (s .variables))) (kind-of f) fs
 
 unfoldable pub line-says : Rooms → Sofar → List ℕ → Said Sofar
 line-says rooms s l = provided (every printable l) reason.Line (by-fields rooms s (length l) (fields l))
@@ -300,6 +299,9 @@ accepted s = record {
 
 abbrev pub refused : Sofar → Reason → Reading
 refused s r = record { nodes = s .nodes; children = s .children; answer = Err (fault.Line r (s .line)) }
+
+abbrev pub is-complete : Sofar → Bool
+is-complete s = all-read (s .header) (s .line) (length (s .variables)) (length (s .nodes))
 
 -- the lines from here on
 unfoldable pub read-on : Rooms → Sofar → List (List ℕ) → Reading

@@ -5,6 +5,7 @@ pub mod kind;
 pub mod lines;
 pub mod nodes;
 pub mod numeral;
+pub mod progress;
 pub mod reader;
 pub mod record;
 pub mod variables;

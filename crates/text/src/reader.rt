@@ -1,1 +1,128 @@
+//! The reader of a table file.
+ghost use mathlib.Core.Path.{_≡_};
+ghost use mathlib.Core.List.{map};
+ghost use Prim.Native.Nat.{_<_, _≤_, _+_, _^_};
+ghost use lib.ListN.{length, drop};
+ghost use Rattle.text.specs.Lines.{fields};
+ghost use Rattle.text.specs.Format.{section-at, all-read, fitting, listed, number-or-zero, by-section, line-says, file-says, overwritten, Rooms};
+ghost use Rattle.text.specs.Steps.{begun, state, sofar, rooms-of, Bounded, Steps, written-at};
+ghost use Rattle.text.specs.declared.kind.Kind.the-variants as kind;
+ghost use Rattle.text.specs.declared.kind.Section.the-variants as section;
+use crate::fault::Fault;
+use crate::fault::Reason;
+use crate::fields::all_printable;
+use crate::fields::field_count;
+use crate::fields::find;
+use crate::fields::from_field;
+use crate::kind::Kind;
+use crate::kind::Section;
+use crate::kind::line_kind;
+use crate::lines::header_line;
+use crate::lines::variable_line;
+use crate::nodes::node_line;
+use crate::nodes::write_numbers;
+use crate::progress::Progress;
+use crate::record::Contents;
+use crate::record::Header;
+use crate::record::Node;
+use crate::record::Variables;
 
+/// Writes the numbers in the fields of a line from the field `from` on.
+fn write_children(line: &[u8], from: usize, children: &mut [u16], place: usize)
+    requires within { ⌜ from ≤ length (fields (now line)) ⌝ }
+    requires room { ⌜ place + length (drop from (fields (now line))) ≤ length (now children) ⌝ }
+    ensures { λ _. ⌜ now (children .exit) ≡ written-at place (map number-or-zero (drop from (fields (now (line .entry))))) (now (children .entry)) ⌝ }
+{
+    if from < field_count(line) {
+        write_numbers(from_field(line, from), children, place);
+    }
+}
+
+impl Progress {
+    fn new() -> Progress
+        ensures { λ r. ⌜ r ≡ begun ⌝ }
+    {
+        let header = Header { variables: 0, nodes: 0, children: 0 };
+        Progress { header, variables: Variables::none(), nodes: 0, children: 0, line: 1, place: 0 }
+    }
+
+    /// The section that the line that is due belongs to.
+    fn section(&self) -> Section
+        ensures { λ r. ⌜ r ≡ section-at (now (self .entry) .header) (now (self .entry) .line) (length (listed (now (self .entry) .variables))) ⌝ }
+    {
+        if self.line == 1 {
+            Section::Header
+        } else if self.variables.as_slice().len() < self.header.variables as usize {
+            Section::Variables
+        } else {
+            Section::Nodes
+        }
+    }
+
+    /// Whether every line that is due has been read.
+    fn is_complete(&self) -> bool
+        ensures { λ r. ⌜ r ≡ all-read (now (self .entry) .header) (now (self .entry) .line) (length (listed (now (self .entry) .variables))) (now (self .entry) .nodes) ⌝ }
+    {
+        self.line > 1
+            && self.variables.as_slice().len() >= self.header.variables as usize
+            && self.nodes >= self.header.nodes as usize
+    }
+
+    /// Whether a node may have so many children more.
+    fn children_fit(&self, count: usize) -> bool
+        requires { ⌜ now self .children + count < 2 ^ 64 ⌝ ∗ ⌜ now self .nodes + 1 < 2 ^ 64 ⌝ }
+        ensures { λ r. ⌜ r ≡ fitting (now (self .entry) .header) (now (self .entry) .nodes) (now (self .entry) .children) count ⌝ }
+    {
+        let used = self.children + count;
+        used <= self.header.children as usize
+            && (self.nodes + 1 < self.header.nodes as usize || used >= self.header.children as usize)
+    }
+
+    /// The header line.
+    fn take_header(&mut self, line: &[u8], nodes: &[Node], children: &[u16]) -> Result<(), Reason>
+        requires bounded { ⌜ Bounded (state (now self) (now nodes) (now children)) ⌝ }
+        requires first { ⌜ now self .line ≡ 1 ⌝ }
+        requires room { ⌜ now self .place + (length (now line) + 1) ≤ 65536 ⌝ }
+        ensures { λ r. ⌜ Steps (state (now (self .entry)) (now (nodes .entry)) (now (children .entry))) (state (now (self .exit)) (now (nodes .entry)) (now (children .entry))) (by-section (rooms-of (state (now (self .entry)) (now (nodes .entry)) (now (children .entry)))) (sofar (state (now (self .entry)) (now (nodes .entry)) (now (children .entry)))) (length (now (line .entry))) section.Header kind.Header (drop 1 (fields (now (line .entry))))) r ⌝ }
+    {
+        self.header = header_line(line, nodes.len(), children.len())?;
+        self.line += 1;
+        self.place += line.len() + 1;
+        Ok(())
+    }
+
+    /// A variable line.
+    fn take_variable(&mut self, line: &[u8], nodes: &[Node], children: &[u16]) -> Result<(), Reason>
+        requires bounded { ⌜ Bounded (state (now self) (now nodes) (now children)) ⌝ }
+        requires due { ⌜ length (listed (now self .variables)) < now self .header .variables ⌝ }
+        requires room { ⌜ now self .place + (length (now line) + 1) ≤ 65536 ⌝ }
+        ensures { λ r. ⌜ Steps (state (now (self .entry)) (now (nodes .entry)) (now (children .entry))) (state (now (self .exit)) (now (nodes .entry)) (now (children .entry))) (by-section (rooms-of (state (now (self .entry)) (now (nodes .entry)) (now (children .entry)))) (sofar (state (now (self .entry)) (now (nodes .entry)) (now (children .entry)))) (length (now (line .entry))) section.Variables kind.Variable (drop 1 (fields (now (line .entry))))) r ⌝ }
+    {
+        let variable = variable_line(line, &self.variables)?;
+        self.variables.push(variable);
+        self.line += 1;
+        self.place += line.len() + 1;
+        Ok(())
+    }
+
+    /// A node line. The line is judged as a whole before anything is written.
+    fn take_node(&mut self, line_kind: Kind, line: &[u8], nodes: &mut [Node], children: &mut [u16]) -> Result<(), Reason>
+        requires bounded { ⌜ Bounded (state (now self) (now nodes) (now children)) ⌝ }
+        requires due { ⌜ now self .nodes < now self .header .nodes ⌝ }
+        requires room { ⌜ now self .place + (length (now line) + 1) ≤ 65536 ⌝ }
+        ensures { λ r. ⌜ Steps (state (now (self .entry)) (now (nodes .entry)) (now (children .entry))) (state (now (self .exit)) (now (nodes .exit)) (now (children .exit))) (by-section (rooms-of (state (now (self .entry)) (now (nodes .entry)) (now (children .entry)))) (sofar (state (now (self .entry)) (now (nodes .entry)) (now (children .entry)))) (length (now (line .entry))) section.Nodes «line_kind» (drop 1 (fields (now (line .entry))))) r ⌝ }
+    {
+        let said = node_line(line_kind, line)?;
+        let count = field_count(line) - said.from;
+        if !self.children_fit(count) {
+            return Err(Reason::Children);
+        }
+        write_children(line, said.from, children, self.children);
+        nodes[self.nodes] = Node { form: said.form, first: self.children as u16, count: count as u16 };
+        self.nodes += 1;
+        self.children += count;
+        self.line += 1;
+        self.place += line.len() + 1;
+        Ok(())
+    }
+}
