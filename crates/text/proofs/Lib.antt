@@ -5,3 +5,4 @@ pub mod Entries
 pub mod Decimals
 pub mod Stores
 pub mod Limits
+pub mod Sections

@@ -1,5 +1,6 @@
 //! The reader of a table file.
 ghost use mathlib.Core.Path.{_≡_};
+ghost use mathlib.Core.Bool.{false};
 ghost use mathlib.Core.List.{map};
 ghost use Prim.Native.Nat.{_<_, _≤_, _+_, _^_};
 ghost use lib.ListN.{length, drop};
@@ -124,5 +125,29 @@ impl Progress {
         self.line += 1;
         self.place += line.len() + 1;
         Ok(())
+    }
+
+    /// One line: the section and the line's kind together decide what it says.
+    fn take_line(&mut self, line: &[u8], nodes: &mut [Node], children: &mut [u16]) -> Result<(), Reason>
+        requires bounded { ⌜ Bounded (state (now self) (now nodes) (now children)) ⌝ }
+        requires due { ⌜ all-read (now self .header) (now self .line) (length (listed (now self .variables))) (now self .nodes) ≡ false ⌝ }
+        requires room { ⌜ now self .place + (length (now line) + 1) ≤ 65536 ⌝ }
+        ensures { λ r. ⌜ Steps (state (now (self .entry)) (now (nodes .entry)) (now (children .entry))) (state (now (self .exit)) (now (nodes .exit)) (now (children .exit))) (line-says (rooms-of (state (now (self .entry)) (now (nodes .entry)) (now (children .entry)))) (sofar (state (now (self .entry)) (now (nodes .entry)) (now (children .entry)))) (now (line .entry))) r ⌝ }
+    {
+        if !all_printable(line) {
+            return Err(Reason::Line);
+        }
+        let kind = line_kind(line);
+        match self.section() {
+            Section::Header => match kind {
+                Kind::Header => self.take_header(line, nodes, children),
+                _ => Err(Reason::Line),
+            },
+            Section::Variables => match kind {
+                Kind::Variable => self.take_variable(line, nodes, children),
+                _ => Err(Reason::Line),
+            },
+            Section::Nodes => self.take_node(kind, line, nodes, children),
+        }
     }
 }
