@@ -8,7 +8,7 @@ use native.Mathlib.Numerals.{add-one}
 use lib.Dec.{eqb, ltb}
 use lib.ListN.{length, getD, take, drop}
 use mathlib.Core.Logic.{inl, inr}
-use Rattle.std.proofs.shelf.Lists.{at-drop-more, at-drop-all, take-all, take-rest, drop-drop, length-drop}
+use Rattle.std.proofs.shelf.Lists.{at-drop-more, at-drop-all, take-all, take-rest, drop-drop, length-drop, length-take-le}
 use Rattle.std.proofs.shelf.Tests.{cond-both, cond-true, cond-false, eq-eqb, ne-eqb, cases-lt}
 use Rattle.text.specs.Lines.{every, onto, index-of, lines, fields}
 
@@ -20,43 +20,49 @@ index-le b (x ∷ xs) = cond-both (eqb x b) 0 (suc (index-of b xs)) (λ n. n ≤
 -- A text with a byte 10 begins with a line; one without has none.
 pub first-line : (xs : List ℕ) → index-of 10 xs < length xs → lines xs ≡ take (index-of 10 xs) xs ∷ lines (drop (suc (index-of 10 xs)) xs)
 first-line [] h = absurd (omega arith)
-first-line (x ∷ xs) h = 
+first-line (x ∷ xs) h =
     elim (eqb x 10) as (λ t. cond t 0 (suc (index-of 10 xs)) < suc (length xs) → cond t ([] ∷ lines xs) (onto x (lines xs)) ≡ take (cond t 0 (suc (index-of 10 xs))) (x ∷ xs) ∷ lines (drop (suc (cond t 0 (suc (index-of 10 xs)))) (x ∷ xs))) [
-      true ↦ λ _. refl
-    | false ↦ λ k. ap (onto x) (first-line xs (omega arith)) ] h
+      | true ↦ λ _. refl
+      | false ↦ λ k. ap (onto x) (first-line xs (omega arith))
+    ] h
 
 pub no-line : (xs : List ℕ) → length xs ≤ index-of 10 xs → lines xs ≡ []
 no-line [] h = refl
 no-line (x ∷ xs) h =
     elim (eqb x 10) as (λ t. suc (length xs) ≤ cond t 0 (suc (index-of 10 xs)) → cond t ([] ∷ lines xs) (onto x (lines xs)) ≡ []) [
-      true ↦ λ k. absurd (omega arith)
-    | false ↦ λ k. ap (onto x) (no-line xs (omega arith)) ] h
+      | true ↦ λ k. absurd (omega arith)
+      | false ↦ λ k. ap (onto x) (no-line xs (omega arith))
+    ] h
 
 -- A line with a tab has a first field and more; one without is one field.
 pub first-of-more : (xs : List ℕ) → index-of 9 xs < length xs → fields xs ≡ take (index-of 9 xs) xs ∷ fields (drop (suc (index-of 9 xs)) xs)
 first-of-more [] h = absurd (omega arith)
-first-of-more (x ∷ xs) h = 
+first-of-more (x ∷ xs) h =
     elim (eqb x 9) as (λ t. cond t 0 (suc (index-of 9 xs)) < suc (length xs) → cond t ([] ∷ fields xs) (onto x (fields xs)) ≡ take (cond t 0 (suc (index-of 9 xs))) (x ∷ xs) ∷ fields (drop (suc (cond t 0 (suc (index-of 9 xs)))) (x ∷ xs))) [
-      true ↦ λ _. refl
-    | false ↦ λ k. ap (onto x) (first-of-more xs (omega arith)) ] h
+      | true ↦ λ _. refl
+      | false ↦ λ k. ap (onto x) (first-of-more xs (omega arith))
+    ] h
 
 pub only-field : (xs : List ℕ) → length xs ≤ index-of 9 xs → fields xs ≡ xs ∷ []
 only-field [] h = refl
 only-field (x ∷ xs) h =
     elim (eqb x 9) as (λ t. suc (length xs) ≤ cond t 0 (suc (index-of 9 xs)) → cond t ([] ∷ fields xs) (onto x (fields xs)) ≡ (x ∷ xs) ∷ []) [
-      true ↦ λ k. absurd (omega arith)
-    | false ↦ λ k. ap (onto x) (only-field xs (omega arith)) ] h
+      | true ↦ λ k. absurd (omega arith)
+      | false ↦ λ k. ap (onto x) (only-field xs (omega arith))
+    ] h
 
 pub first-field-is : (xs : List ℕ) → getD (fields xs) 0 [] ≡ take (index-of 9 xs) xs
 first-field-is xs = elim (cases-lt (index-of 9 xs) (length xs)) [
-    inl h ↦ ap (λ fs. getD fs 0 []) (first-of-more xs h)
-  | inr h ↦ ap (λ fs. getD fs 0 []) (only-field xs h) ∙ sym (take-all (index-of 9 xs) xs h) ]
+  | inl h ↦ ap (λ fs. getD fs 0 []) (first-of-more xs h)
+  | inr h ↦ ap (λ fs. getD fs 0 []) (only-field xs h) ∙ sym (take-all (index-of 9 xs) xs h)
+]
 
 -- where there is a second field, a tab comes before it
 pub next-field : (xs : List ℕ) → 1 < length (fields xs) → (index-of 9 xs < length xs) × (fields (drop (suc (index-of 9 xs)) xs) ≡ drop 1 (fields xs))
 next-field xs more = elim (cases-lt (index-of 9 xs) (length xs)) [
-    inl h ↦ (h, sym (ap (drop 1) (first-of-more xs h)))
-  | inr h ↦ absurd (omega (arith, ap length (only-field xs h))) ]
+  | inl h ↦ (h, sym (ap (drop 1) (first-of-more xs h)))
+  | inr h ↦ absurd (omega (arith, ap length (only-field xs h)))
+]
 
 -- the field `k` of a line begins at a place
 abbrev pub Begins : List ℕ → ℕ → ℕ → Type 0
@@ -71,7 +77,7 @@ field-on xs at k r (within, same) is more =
     let next = next-field rest left in
     let size : length rest ≡ length xs - at = length-drop at xs in
     let apart : drop (at + (r + 1)) xs ≡ drop (suc (index-of 9 rest)) rest =
-      ap (λ n. drop (at + n) xs) (add-one r ∙ ap suc here) ∙ sym (drop-drop (suc (index-of 9 rest)) at xs) in
+    ap (λ n. drop (at + n) xs) (add-one r ∙ ap suc here) ∙ sym (drop-drop (suc (index-of 9 rest)) at xs) in
     (omega (arith, next .0), ap fields apart ∙ next .1 ∙ ap (drop 1) same ∙ drop-drop 1 k (fields xs))
 
 -- Steps of a loop over the bytes of a text.
@@ -126,5 +132,42 @@ module _ (xs : List ℕ) (at end : ℕ) (is : end ≡ at + index-of 9 (drop at x
 
   pub fields-first : end ≤ length xs → fields (drop at xs) ≡ take (end - at) (drop at xs) ∷ drop 1 (fields (drop at xs))
   fields-first h = elim (cases-lt end (length xs)) [
-      inl k ↦ (let e = fields-left k in e ∙ ap (λ fs. take (end - at) (drop at xs) ∷ drop 1 fs) (sym e))
-    | inr k ↦ (let e = fields-last (omega arith) in e ∙ ap (λ fs. take (end - at) (drop at xs) ∷ drop 1 fs) (sym e)) ]
+    | inl k ↦ (let e = fields-left k in e ∙ ap (λ fs. take (end - at) (drop at xs) ∷ drop 1 fs) (sym e))
+    | inr k ↦ (let e = fields-last (omega arith) in e ∙ ap (λ fs. take (end - at) (drop at xs) ∷ drop 1 fs) (sym e))
+  ]
+
+-- the lines of what is left of a text, by the end of the first of them
+module _ (xs : List ℕ) (at r : ℕ) (inside : at ≤ length xs) (is : r ≡ index-of 10 (take (length xs - at) (drop at xs))) where
+  here : r ≡ index-of 10 (drop at xs)
+  here = is ∙ ap (index-of 10) (take-rest xs at)
+
+  pub line-inside : (at + r ≡ length xs → ⊥) → at + r < length xs
+  line-inside h =
+      let size : length (drop at xs) ≡ length xs - at = length-drop at xs in
+      let low : r ≤ length (drop at xs) = omega (arith, here, index-le 10 (drop at xs)) in
+      let apart : (at + r ≡ length xs) → ⊥ = h in
+      omega arith
+
+  line-is : take (at + r - at) (drop at xs) ≡ take (index-of 10 (drop at xs)) (drop at xs)
+  line-is = ap (λ n. take n (drop at xs)) (omega (arith, here))
+
+  pub line-size : at + r < length xs → length (take (at + r - at) (drop at xs)) ≡ r
+  line-size h =
+      let size : length (drop at xs) ≡ length xs - at = length-drop at xs in
+      let fits : at + r - at ≤ length (drop at xs) = omega arith in
+      length-take-le (at + r - at) (drop at xs) fits ∙ omega arith
+
+  pub lines-left : at + r < length xs → lines (drop at xs) ≡ take (at + r - at) (drop at xs) ∷ lines (drop (at + (length (take (at + r - at) (drop at xs)) + 1)) xs)
+  lines-left h =
+      let rest = drop at xs in
+      let i = index-of 10 rest in
+      let size : length rest ≡ length xs - at = length-drop at xs in
+      let more : i < length rest = omega (arith, here) in
+      let long = line-size h in
+      let on : drop (suc i) rest ≡ drop (at + (length (take (at + r - at) rest) + 1)) xs = drop-drop (suc i) at xs ∙ ap (λ n. drop n xs) (omega (arith, here)) in
+      first-line rest more ∙ ap₂ (λ l ys. l ∷ lines ys) (sym line-is) on
+
+  pub lines-none : at + r ≡ length xs → lines (drop at xs) ≡ []
+  lines-none h =
+      let size : length (drop at xs) ≡ length xs - at = length-drop at xs in
+      no-line (drop at xs) (omega (arith, here))

@@ -27,15 +27,17 @@ use Rattle.text.proofs.Says.{four, not-four}
 pub some-field : (xs : List ℕ) → 1 ≤ length (fields xs)
 some-field [] = omega arith
 some-field (x ∷ xs) = elim (eqb x 9) as (λ t. 1 ≤ length (cond t ([] ∷ fields xs) (onto x (fields xs)))) [
-    true ↦ omega arith
-  | false ↦ omega (arith, some-field xs, length-onto x (fields xs)) ]
+  | true ↦ omega arith
+  | false ↦ omega (arith, some-field xs, length-onto x (fields xs))
+]
 
 -- and at most one more than it has bytes
 pub few-fields : (xs : List ℕ) → length (fields xs) ≤ length xs + 1
 few-fields [] = omega arith
 few-fields (x ∷ xs) = elim (eqb x 9) as (λ t. length (cond t ([] ∷ fields xs) (onto x (fields xs))) ≤ suc (length xs) + 1) [
-    true ↦ omega (arith, few-fields xs)
-  | false ↦ omega (arith, few-fields xs, length-onto x (fields xs)) ]
+  | true ↦ omega (arith, few-fields xs)
+  | false ↦ omega (arith, few-fields xs, length-onto x (fields xs))
+]
 
 -- a leaf has no field but the first
 pub leaf : (fs : List (List ℕ)) (f : Form) → length fs ≡ 1 → no-field (drop 1 fs) (Ok (entry-of f [])) ≡ Ok (entry-of f (map number-or-zero (drop 1 fs)))

@@ -6,3 +6,4 @@ pub mod Decimals
 pub mod Stores
 pub mod Limits
 pub mod Sections
+pub mod Runs

@@ -12,7 +12,7 @@ use Rattle.text.specs.declared.fault.Reason.the-variants as reason
 use Rattle.text.specs.declared.record.Header.{Header}
 use Rattle.text.specs.Format.{Said, Rooms, then, provided, number-field, within-limits, header-of, header-says}
 
-never : {A : Type 0} {X : Type 0} (r : Reason) (x : A) → _≡_ {A = Said A} (Err r) (Ok x) → X
+pub never : {A : Type 0} {X : Type 0} (r : Reason) (x : A) → _≡_ {A = Said A} (Err r) (Ok x) → X
 never r x e = let z : _≡_ {A = ℕ} 0 1 = cc in absurd (omega arith)
 
 pub same-ok : {A : Type 0} (x y : A) → _≡_ {A = Said A} (Ok x) (Ok y) → x ≡ y

@@ -69,11 +69,11 @@ module _ (p : Progress) (ns : List Node) (cs : List ℕ) (size : ℕ) (e : Entry
       let used : p .children ≤ length cs = omega (arith, b .room-children, b .children-within) in
       let same-size : p .children + k ≡ p .children + length xs = ap (λ n. p .children + n) ke in
       let record-is : node-on k ≡ record { form = e .form; first = length (take (p .children) cs); count = length xs } =
-        λ i. record { form = e .form; first = sym (length-take-le (p .children) cs used) i; count = ke i } in
+      λ i. record { form = e .form; first = sym (length-take-le (p .children) cs used) i; count = ke i } in
       let nodes-are : take (p .nodes) ns ++ record { form = e .form; first = length (take (p .children) cs); count = length xs } ∷ [] ≡ take (p .nodes + 1) (set ns (p .nodes) (node-on k)) =
-        sym (take-more-set ns (p .nodes) (node-on k) inside ∙ ap (λ n. take (p .nodes) ns ++ n ∷ []) record-is) in
+      sym (take-more-set ns (p .nodes) (node-on k) inside ∙ ap (λ n. take (p .nodes) ns ++ n ∷ []) record-is) in
       let children-are : take (p .children) cs ++ xs ≡ take (p .children + k) ds =
-        sym (ap (take (p .children + k)) de ∙ take-written (p .children) xs cs fits (p .children + k) same-size) in
+      sym (ap (take (p .children + k)) de ∙ take-written (p .children) xs cs fits (p .children + k) same-size) in
       let long : length ds ≡ length cs = ap length de ∙ length-written (p .children) xs cs fits in
       record {
         says = ap said-node is ∙ cond-true _ _ _ (measured ∙ f) ∙ (λ i. Ok (record { header = p .header; variables = sofar (state p ns cs) .variables; nodes = nodes-are i; children = children-are i; line = p .line + 1; place = p .place + (size + 1) }));
@@ -89,8 +89,11 @@ module _ (p : Progress) (ns : List Node) (cs : List ℕ) (size : ℕ) (e : Entry
           nodes-within = omega arith;
           children-within = omega arith;
           lines = omega (arith, b .lines);
-          places = room };
+          places = room;
+        };
         untouched = record {
           nodes = drop-set-lt (p .nodes + 1) ns (p .nodes) (node-on k) (omega arith);
           children = ap (drop (p .children + k)) de ∙ drop-written (p .children) xs cs fits (p .children + k) same-size;
-          on = (omega arith, omega arith) } }
+          on = (omega arith, omega arith);
+        };
+      }

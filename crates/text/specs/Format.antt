@@ -102,6 +102,9 @@ pub record Rooms : Type 0 where
   pub nodes : ℕ
   pub children : ℕ
 
+abbrev pub rooms-for : List Node → List ℕ → Rooms
+rooms-for ns cs = record { nodes = length ns; children = length cs }
+
 abbrev pub within-limits : ℕ → ℕ → ℕ → Bool
 within-limits v n c = leb 1 v && leb v 64 && (leb 1 n && leb n 4096) && leb c 12288
 
@@ -294,8 +297,10 @@ pub record Reading : Type 0 where
 
 abbrev pub accepted : Sofar → Reading
 accepted s = record {
-  nodes = s .nodes; children = s .children;
-  answer = Ok (record { variables = variables-of (s .variables); nodes = s .header .nodes; children = s .header .children; weights = s .place }) }
+  nodes = s .nodes;
+  children = s .children;
+  answer = Ok (record { variables = variables-of (s .variables); nodes = s .header .nodes; children = s .header .children; weights = s .place });
+}
 
 abbrev pub refused : Sofar → Reason → Reading
 refused s r = record { nodes = s .nodes; children = s .children; answer = Err (fault.Line r (s .line)) }

@@ -10,7 +10,7 @@ use Rattle.text.specs.declared.kind.Kind.{Kind}
 use Rattle.text.specs.declared.nodes.NodeLine.{NodeLine}
 use Rattle.text.specs.declared.progress.Progress.{Progress}
 use Rattle.text.specs.declared.record.Node.{Node}
-use Rattle.text.specs.Format.{Said, Entry, entry-of, entry-says, number-or-zero, Rooms, Sofar, header-of, listed, variables-of}
+use Rattle.text.specs.Format.{Said, Entry, entry-of, entry-says, number-or-zero, Rooms, rooms-for, Sofar, header-of, listed, variables-of}
 
 -- a store after numbers were written from a place on
 abbrev pub written-at : {A : Type 0} → ℕ → List A → List A → List A
@@ -44,12 +44,16 @@ state p ns cs = record { at = p; nodes = ns; children = cs }
 -- what has been said so far, as the reader holds it
 abbrev pub sofar : State → Sofar
 sofar s = record {
-  header = s .at .header; variables = listed (s .at .variables);
-  nodes = take (s .at .nodes) (s .nodes); children = take (s .at .children) (s .children);
-  line = s .at .line; place = s .at .place }
+  header = s .at .header;
+  variables = listed (s .at .variables);
+  nodes = take (s .at .nodes) (s .nodes);
+  children = take (s .at .children) (s .children);
+  line = s .at .line;
+  place = s .at .place;
+}
 
 abbrev pub rooms-of : State → Rooms
-rooms-of s = record { nodes = length (s .nodes); children = length (s .children) }
+rooms-of s = rooms-for (s .nodes) (s .children)
 
 -- the bounds that the reader keeps
 pub record Bounded (s : State) : Type 0 where

@@ -8,6 +8,9 @@ ghost use Rattle.text.specs.Lines.{every, printable, index-of, fields};
 /// The byte between two fields.
 pub const TAB: u8 = 9;
 
+/// The byte that ends a line.
+pub const NEWLINE: u8 = 10;
+
 /// The place of the first `byte`, or the length of the text where it has none.
 pub fn find(text: &[u8], byte: u8) -> usize
     ensures value { λ r. ⌜ r ≡ index-of byte (now (text .entry)) ⌝ }

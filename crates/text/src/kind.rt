@@ -48,5 +48,9 @@ pub fn line_kind(line: &[u8]) -> Kind
     ensures { λ r. ⌜ r ≡ kind-of (getD (fields (now (line .entry))) 0 []) ⌝ }
 {
     let first = first_field(line);
-    if first.len() == 1 { letter_kind(first[0]) } else { Kind::Other }
+    if first.len() == 1 {
+        letter_kind(first[0])
+    } else {
+        Kind::Other
+    }
 }

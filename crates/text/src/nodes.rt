@@ -113,7 +113,10 @@ fn and_line(line: &[u8]) -> Result<NodeLine, Reason>
     if !all_numbers(from_field(line, 1)) {
         return Err(Reason::Number);
     }
-    Ok(NodeLine { form: Form::And, from: 1 })
+    Ok(NodeLine {
+        form: Form::And,
+        from: 1,
+    })
 }
 
 fn fork_line(line: &[u8]) -> Result<NodeLine, Reason>
@@ -126,7 +129,10 @@ fn fork_line(line: &[u8]) -> Result<NodeLine, Reason>
     if !all_numbers(from_field(line, 2)) {
         return Err(Reason::Number);
     }
-    Ok(NodeLine { form: Form::Fork { variable }, from: 2 })
+    Ok(NodeLine {
+        form: Form::Fork { variable },
+        from: 2,
+    })
 }
 
 fn leaf_line(line: &[u8], form: Form) -> Result<NodeLine, Reason>

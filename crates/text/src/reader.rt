@@ -5,12 +5,13 @@ ghost use mathlib.Core.List.{map};
 ghost use Prim.Native.Nat.{_<_, _≤_, _+_, _^_};
 ghost use lib.ListN.{length, drop};
 ghost use Rattle.text.specs.Lines.{fields};
-ghost use Rattle.text.specs.Format.{section-at, all-read, fitting, listed, number-or-zero, by-section, line-says, file-says, overwritten, Rooms};
+ghost use Rattle.text.specs.Format.{section-at, all-read, fitting, listed, number-or-zero, by-section, line-says, file-says, overwritten, rooms-for};
 ghost use Rattle.text.specs.Steps.{begun, state, sofar, rooms-of, Bounded, Steps, written-at};
 ghost use Rattle.text.specs.declared.kind.Kind.the-variants as kind;
 ghost use Rattle.text.specs.declared.kind.Section.the-variants as section;
 use crate::fault::Fault;
 use crate::fault::Reason;
+use crate::fields::NEWLINE;
 use crate::fields::all_printable;
 use crate::fields::field_count;
 use crate::fields::find;
@@ -43,8 +44,19 @@ impl Progress {
     fn new() -> Progress
         ensures { λ r. ⌜ r ≡ begun ⌝ }
     {
-        let header = Header { variables: 0, nodes: 0, children: 0 };
-        Progress { header, variables: Variables::none(), nodes: 0, children: 0, line: 1, place: 0 }
+        let header = Header {
+            variables: 0,
+            nodes: 0,
+            children: 0,
+        };
+        Progress {
+            header,
+            variables: Variables::none(),
+            nodes: 0,
+            children: 0,
+            line: 1,
+            place: 0,
+        }
     }
 
     /// The section that the line that is due belongs to.
@@ -76,7 +88,8 @@ impl Progress {
     {
         let used = self.children + count;
         used <= self.header.children as usize
-            && (self.nodes + 1 < self.header.nodes as usize || used >= self.header.children as usize)
+            && (self.nodes + 1 < self.header.nodes as usize
+                || used >= self.header.children as usize)
     }
 
     /// The header line.
@@ -107,7 +120,13 @@ impl Progress {
     }
 
     /// A node line. The line is judged as a whole before anything is written.
-    fn take_node(&mut self, line_kind: Kind, line: &[u8], nodes: &mut [Node], children: &mut [u16]) -> Result<(), Reason>
+    fn take_node(
+        &mut self,
+        line_kind: Kind,
+        line: &[u8],
+        nodes: &mut [Node],
+        children: &mut [u16],
+    ) -> Result<(), Reason>
         requires bounded { ⌜ Bounded (state (now self) (now nodes) (now children)) ⌝ }
         requires due { ⌜ now self .nodes < now self .header .nodes ⌝ }
         requires room { ⌜ now self .place + (length (now line) + 1) ≤ 65536 ⌝ }
@@ -119,7 +138,11 @@ impl Progress {
             return Err(Reason::Children);
         }
         write_children(line, said.from, children, self.children);
-        nodes[self.nodes] = Node { form: said.form, first: self.children as u16, count: count as u16 };
+        nodes[self.nodes] = Node {
+            form: said.form,
+            first: self.children as u16,
+            count: count as u16,
+        };
         self.nodes += 1;
         self.children += count;
         self.line += 1;
@@ -128,7 +151,12 @@ impl Progress {
     }
 
     /// One line: the section and the line's kind together decide what it says.
-    fn take_line(&mut self, line: &[u8], nodes: &mut [Node], children: &mut [u16]) -> Result<(), Reason>
+    fn take_line(
+        &mut self,
+        line: &[u8],
+        nodes: &mut [Node],
+        children: &mut [u16],
+    ) -> Result<(), Reason>
         requires bounded { ⌜ Bounded (state (now self) (now nodes) (now children)) ⌝ }
         requires due { ⌜ all-read (now self .header) (now self .line) (length (listed (now self .variables))) (now self .nodes) ≡ false ⌝ }
         requires room { ⌜ now self .place + (length (now line) + 1) ≤ 65536 ⌝ }
@@ -150,4 +178,38 @@ impl Progress {
             Section::Nodes => self.take_node(kind, line, nodes, children),
         }
     }
+}
+
+/// Reads a table file: fills the two stores from their first place on, and answers the variables,
+/// the counts and the place where the weight text begins, or the first refusal that fits.
+pub fn read_table(file: &[u8], nodes: &mut [Node], children: &mut [u16]) -> Result<Contents, Fault>
+    ensures answer { λ r. ⌜ r ≡ file-says (rooms-for (now (nodes .entry)) (now (children .entry))) (now (file .entry)) .answer ⌝ }
+    ensures nodes { λ _. ⌜ now (nodes .exit) ≡ overwritten (file-says (rooms-for (now (nodes .entry)) (now (children .entry))) (now (file .entry)) .nodes) (now (nodes .entry)) ⌝ }
+    ensures children { λ _. ⌜ now (children .exit) ≡ overwritten (file-says (rooms-for (now (nodes .entry)) (now (children .entry))) (now (file .entry)) .children) (now (children .entry)) ⌝ }
+{
+    if file.len() < 1 || file.len() > 65536 {
+        return Err(Fault::Length);
+    }
+    let mut progress = Progress::new();
+    while !progress.is_complete() {
+        let line = progress.line;
+        let start = progress.place;
+        let end = start + find(&file[start..], NEWLINE);
+        if end == file.len() {
+            return Err(Fault::Line {
+                reason: Reason::Line,
+                line,
+            });
+        }
+        match progress.take_line(&file[start..end], nodes, children) {
+            Ok(()) => {}
+            Err(reason) => return Err(Fault::Line { reason, line }),
+        }
+    }
+    Ok(Contents {
+        variables: progress.variables,
+        nodes: progress.header.nodes,
+        children: progress.header.children,
+        weights: progress.place,
+    })
 }

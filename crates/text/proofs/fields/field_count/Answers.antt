@@ -12,8 +12,9 @@ loop-b-again c =
     let xs = c .args .line .now in
     let i = c .loop-b .b-index in
     elim (c .if-b-eq-TAB .came) [
-      then-b-eq-TAB w ↦ (omega (arith, w .count-is, c .loop-b .inv .0, count-tab xs i (c .loop-b-test .taken) (w .if-b-eq-TAB .taken)), omega (arith, w .count-is, c .loop-b .inv .1))
-    | else-b-eq-TAB w ↦ (omega (arith, w .count-is, c .loop-b .inv .0, count-other xs i (c .loop-b-test .taken) (w .if-b-eq-TAB .left)), omega (arith, w .count-is, c .loop-b .inv .1)) ]
+      | then-b-eq-TAB w ↦ (omega (arith, w .count-is, c .loop-b .inv .0, count-tab xs i (c .loop-b-test .taken) (w .if-b-eq-TAB .taken)), omega (arith, w .count-is, c .loop-b .inv .1))
+      | else-b-eq-TAB w ↦ (omega (arith, w .count-is, c .loop-b .inv .0, count-other xs i (c .loop-b-test .taken) (w .if-b-eq-TAB .left)), omega (arith, w .count-is, c .loop-b .inv .1))
+    ]
 
 pub returns : need.returns
 returns c = omega (arith, c .loop-b .inv .0, ap length (at-drop-all fields (c .args .line .now) (c .loop-b .b-index) (c .loop-b-test .left)))

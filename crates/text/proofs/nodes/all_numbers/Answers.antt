@@ -36,7 +36,8 @@ loop-at-again c =
     let at = c .loop-at .at in
     let end = c .field-end-end .result in
     let told = c .field-end-end .ensures in
-    let good : isSome (c .read-number .result) ≡ is-number (take (end - at) (drop at xs)) = ap isSome (c .read-number .ensures) in
-    (omega (arith, told .within, c .if-end-text .left),
-     sym (ap (λ t. t && every is-number (fields (drop (end + 1) xs))) (sym good ∙ c .if-is-none .ensures tt))
-     ∙ sym (ap (every is-number) (fields-left xs at end (told .value) (omega (arith, told .within, c .if-end-text .left)))) ∙ c .loop-at .inv .1)
+    let good : isSome (c .read-number .result) ≡ is-number (take (end - at) (drop at xs)) = ap isSome (c .read-number .ensures) in (
+      omega (arith, told .within, c .if-end-text .left),
+      sym (ap (λ t. t && every is-number (fields (drop (end + 1) xs))) (sym good ∙ c .if-is-none .ensures tt))
+          ∙ sym (ap (every is-number) (fields-left xs at end (told .value) (omega (arith, told .within, c .if-end-text .left)))) ∙ c .loop-at .inv .1,
+    )

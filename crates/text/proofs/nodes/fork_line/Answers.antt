@@ -27,6 +27,8 @@ returns-then-not-all-numbers c =
 pub returns : need.returns
 returns c =
     let fs = fields (c .args .line .now) in
-    let four : length fs ≡ 4 = sym (c .field-count .ensures) ∙ c .if-field-count-ne4 .left in
-    (fork-right fs four (c .in-Continue-variable .variable) (sym (c .in-Continue-variable .was tt) ∙ c .number-field .ensures)
-     (sym (c .if-not-all-numbers .ensures tt ∙ ap (every is-number) (c .from-field .ensures))), omega arith)
+    let four : length fs ≡ 4 = sym (c .field-count .ensures) ∙ c .if-field-count-ne4 .left in (
+      fork-right fs four (c .in-Continue-variable .variable) (sym (c .in-Continue-variable .was tt) ∙ c .number-field .ensures)
+          (sym (c .if-not-all-numbers .ensures tt ∙ ap (every is-number) (c .from-field .ensures))),
+      omega arith,
+    )

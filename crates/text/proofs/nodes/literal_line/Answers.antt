@@ -13,9 +13,11 @@ returns-then-field-count-ne2 c = literal-wrong (fields (c .args .line .now)) (λ
 pub returns-in-Some : need.returns-in-Some
 returns-in-Some c =
     let fs = fields (c .args .line .now) in
-    let two : length fs ≡ 2 = sym (c .field-count .ensures) ∙ c .if-field-count-ne2 .left in
-    (sym (literal-says fs _ two (sym (c .in-Some .is) ∙ c .read-literal .ensures ∙ ap literal (c .field .ensures)))
-     ∙ ap (λ cs. Ok (entry-of (c .in-Some .form) cs)) (sym (nothing-after fs two)), omega arith)
+    let two : length fs ≡ 2 = sym (c .field-count .ensures) ∙ c .if-field-count-ne2 .left in (
+      sym (literal-says fs _ two (sym (c .in-Some .is) ∙ c .read-literal .ensures ∙ ap literal (c .field .ensures)))
+          ∙ ap (λ cs. Ok (entry-of (c .in-Some .form) cs)) (sym (nothing-after fs two)),
+      omega arith,
+    )
 
 pub returns-in-None : need.returns-in-None
 returns-in-None c =

@@ -11,8 +11,9 @@ pub returns-in-Header : need.returns-in-Header
 returns-in-Header c =
     let fs = drop 1 (fields (c .args .line .now)) in
     elim (c .in-Header .is) [
-      inl e ↦ ap (λ k. entry-says k fs) e ∙ header-no fs
-    | inr q ↦ elim q [ inl e ↦ ap (λ k. entry-says k fs) e ∙ variable-no fs | inr e ↦ ap (λ k. entry-says k fs) e ∙ other-no fs ] ]
+      | inl e ↦ ap (λ k. entry-says k fs) e ∙ header-no fs
+      | inr q ↦ elim q [ inl e ↦ ap (λ k. entry-says k fs) e ∙ variable-no fs | inr e ↦ ap (λ k. entry-says k fs) e ∙ other-no fs ]
+    ]
 
 pub returns-in-True : need.returns-in-True
 returns-in-True c =

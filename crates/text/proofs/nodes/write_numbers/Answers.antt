@@ -43,9 +43,11 @@ loop-first-again c =
     let more = fields-left xs (c .loop-first .at) end (told .value) inside in
     let later = map number-or-zero (fields (drop (end + 1) xs)) in
     let store = c .loop-first .store in
-    let place = c .loop-first .place in
-    (omega arith, omega (arith, ap length more, c .loop-first .inv .1),
-     ap (λ n. sets (set store place (c .unwrap-or .result)) n later) (add-one place)
-     ∙ ap (λ v. sets (set store place v) (suc place) later) (value (need.at·loop-first-again c .After-unwrap-or))
-     ∙ sym (ap (λ fs. sets store place (map number-or-zero fs)) more)
-     ∙ c .loop-first .inv .2)
+    let place = c .loop-first .place in (
+      omega arith,
+      omega (arith, ap length more, c .loop-first .inv .1),
+      ap (λ n. sets (set store place (c .unwrap-or .result)) n later) (add-one place)
+          ∙ ap (λ v. sets (set store place v) (suc place) later) (value (need.at·loop-first-again c .After-unwrap-or))
+          ∙ sym (ap (λ fs. sets store place (map number-or-zero fs)) more)
+          ∙ c .loop-first .inv .2,
+    )

@@ -9,7 +9,7 @@ use Rattle.text.proofs.Limits.{header-limits}
 use Rattle.text.proofs.progress.Progress.take_header.Needs as need
 
 pub returns : need.returns
-returns c = 
+returns c =
     let s = state (c .args .self .now) (c .args .nodes .now) (c .args .children .now) in
     let says = sym (c .header-line .ensures) ∙ c .in-Continue-self .was tt in
     let limits = header-limits (rooms-of s) (drop 1 (fields (c .args .line .now))) (c .in-Continue-self .field-0) says in
@@ -29,5 +29,7 @@ returns c =
         nodes-within = omega (arith, old .nodes-within, ap (λ h. h .nodes) empty);
         children-within = omega (arith, old .children-within, ap (λ h. h .children) empty);
         lines = omega (arith, old .lines);
-        places = omega arith };
-      untouched = record { nodes = refl; children = refl; on = (omega arith, omega arith) } }
+        places = omega arith;
+      };
+      untouched = record { nodes = refl; children = refl; on = (omega arith, omega arith) };
+    }

@@ -22,9 +22,10 @@ counted c =
 
 pub children-fit-requires : need.children-fit-requires
 children-fit-requires c κs =
-    let b = c .pre .bounded in
-    (omega (arith, c .field-count .ensures, few-fields (c .args .line .now), b .children-within, b .limit-children, c .pre .room),
-     omega (arith, c .pre .due, b .room-nodes, c .good))
+    let b = c .pre .bounded in (
+      omega (arith, c .field-count .ensures, few-fields (c .args .line .now), b .children-within, b .limit-children, c .pre .room),
+      omega (arith, c .pre .due, b .room-nodes, c .good),
+    )
 
 pub returns-then-not-children-fit : need.returns-then-not-children-fit
 returns-then-not-children-fit c =
@@ -42,7 +43,8 @@ write-children-requires c κs =
     let fits = c .if-not-children-fit .ensures tt ∙ ap (fitting (p .header) (p .nodes) (p .children)) (counted (need.at·write-children-requires c .After-field-count)) in
     record {
       within = c .in-Continue-said .ensures tt .1;
-      room = omega (arith, node-room p (c .args .nodes .now) (c .args .children .now) (length (c .args .line .now)) e (c .pre .bounded) (c .pre .due) (sym fits), length-map (drop (said .from) fs) number-or-zero) }
+      room = omega (arith, node-room p (c .args .nodes .now) (c .args .children .now) (length (c .args .line .now)) e (c .pre .bounded) (c .pre .due) (sym fits), length-map (drop (said .from) fs) number-or-zero);
+    }
 
 pub returns : need.returns
 returns c =

@@ -25,7 +25,7 @@ returns c =
     let next = with-variable (sofar s) size v in
     record {
       says = ap (λ x. then x (λ w. Ok (with-variable (sofar s) size w))) says
-        ∙ (λ i. Ok (record { header = next .header; variables = sym lists i; nodes = next .nodes; children = next .children; line = next .line; place = next .place }));
+          ∙ (λ i. Ok (record { header = next .header; variables = sym lists i; nodes = next .nodes; children = next .children; line = next .line; place = next .place }));
       bounded = record {
         first-line = omega arith;
         start = λ e. absurd (omega (arith, old .first-line, e));
@@ -38,5 +38,7 @@ returns c =
         nodes-within = old .nodes-within;
         children-within = old .children-within;
         lines = omega (arith, old .lines);
-        places = c .pre .room };
-      untouched = record { nodes = refl; children = refl; on = (omega arith, omega arith) } }
+        places = c .pre .room;
+      };
+      untouched = record { nodes = refl; children = refl; on = (omega arith, omega arith) };
+    }
