@@ -73,10 +73,8 @@ plain-decimal n fits e = elim (cases-eq n 0) [
 pub numeral-decimal : (most cap n : ℕ) → n ≤ cap → n < 10 ^ most → 0 < most → n < 2 ^ 64 → numeral most cap (decimal n) ≡ Some n
 unfolding numeral
 numeral-decimal most cap n low short some fits =
-    let shaped : numeral-shaped most (decimal n) ≡ true =
-    shaped-from most _ (decimal-some n fits) (length-decimal-le most n some short fits) (plain-decimal n fits) in
-    let digits : (allDigits (decimal n) && leb (value-on 0 (decimal n)) cap) ≡ true =
-    and-from _ _ (digits-decimal numerals n fits) (le-leb _ cap (rw (value-decimal numerals n fits) low)) in
+    let shaped = shaped-from most (decimal n) (decimal-some n fits) (length-decimal-le most n some short fits) (plain-decimal n fits) in
+    let digits = and-from (allDigits (decimal n)) (leb (value-on 0 (decimal n)) cap) (digits-decimal numerals n fits) (le-leb (value-on 0 (decimal n)) cap (rw (value-decimal numerals n fits) low)) in
     cond-true _ _ _ shaped ∙ cond-true _ _ _ digits ∙ ap Some (value-decimal numerals n fits)
 
 -- and no other text is

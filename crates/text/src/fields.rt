@@ -25,7 +25,7 @@ pub fn find(text: &[u8], byte: u8) -> usize
 }
 
 /// Whether a byte may stand in a line: a tab, or 32 to 126.
-pub fn is_printable(byte: u8) -> bool
+pub(crate) fn is_printable(byte: u8) -> bool
     ensures { λ r. ⌜ r ≡ printable byte ⌝ }
 {
     byte == TAB || (byte >= 32 && byte <= 126)
@@ -57,7 +57,7 @@ pub fn field_count(line: &[u8]) -> usize
 }
 
 /// The part of a line that begins with its field `k`, counted from 0.
-pub fn from_field(line: &[u8], k: usize) -> &[u8]
+pub(crate) fn from_field(line: &[u8], k: usize) -> &[u8]
     requires { ⌜ k < length (fields (now line)) ⌝ }
     ensures { λ r. ⌜ fields (now r) ≡ drop k (fields (now (line .entry))) ⌝ }
 {
@@ -69,7 +69,7 @@ pub fn from_field(line: &[u8], k: usize) -> &[u8]
 }
 
 /// The first field of a line.
-pub fn first_field(line: &[u8]) -> &[u8]
+pub(crate) fn first_field(line: &[u8]) -> &[u8]
     ensures { λ r. ⌜ now r ≡ getD (fields (now (line .entry))) 0 [] ⌝ }
 {
     &line[0..find(line, TAB)]

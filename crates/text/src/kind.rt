@@ -28,7 +28,7 @@ pub enum Section {
 }
 
 /// What a line is by its letter.
-pub fn letter_kind(letter: u8) -> Kind
+pub(crate) fn letter_kind(letter: u8) -> Kind
     ensures { λ r. ⌜ r ≡ by-letter letter ⌝ }
 {
     match letter {
@@ -44,7 +44,7 @@ pub fn letter_kind(letter: u8) -> Kind
 }
 
 /// What a line is by its first field.
-pub fn line_kind(line: &[u8]) -> Kind
+pub(crate) fn line_kind(line: &[u8]) -> Kind
     ensures { λ r. ⌜ r ≡ kind-of (getD (fields (now (line .entry))) 0 []) ⌝ }
 {
     let first = first_field(line);

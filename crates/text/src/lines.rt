@@ -28,7 +28,7 @@ pub fn number_field(line: &[u8], k: usize) -> Result<u16, Reason>
 }
 
 /// The header line, with the lengths of the two stores.
-pub fn header_line(line: &[u8], node_room: usize, child_room: usize) -> Result<Header, Reason>
+pub(crate) fn header_line(line: &[u8], node_room: usize, child_room: usize) -> Result<Header, Reason>
     ensures { λ r. ⌜ r ≡ header-says (record { nodes = «node_room»; children = «child_room» }) (drop 1 (fields (now (line .entry)))) ⌝ }
 {
     if field_count(line) != 4 {
@@ -51,7 +51,7 @@ pub fn header_line(line: &[u8], node_room: usize, child_room: usize) -> Result<H
 }
 
 /// The role that the letter of a variable line gives.
-pub fn role(letter: &[u8]) -> Option<Role>
+pub(crate) fn role(letter: &[u8]) -> Option<Role>
     ensures { λ r. ⌜ r ≡ role-of (now (letter .entry)) ⌝ }
 {
     if same_bytes(letter, b"E") {
@@ -64,7 +64,7 @@ pub fn role(letter: &[u8]) -> Option<Role>
 }
 
 /// A variable line, after the variables before it.
-pub fn variable_line(line: &[u8], before: &Variables) -> Result<Variable, Reason>
+pub(crate) fn variable_line(line: &[u8], before: &Variables) -> Result<Variable, Reason>
     ensures { λ r. ⌜ r ≡ variable-says (listed (now (before .entry))) (drop 1 (fields (now (line .entry)))) ⌝ }
 {
     if field_count(line) != 4 {

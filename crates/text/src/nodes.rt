@@ -27,7 +27,7 @@ pub struct NodeLine {
 }
 
 /// The end of the field that begins at `at`.
-pub fn field_end(text: &[u8], at: usize) -> usize
+pub(crate) fn field_end(text: &[u8], at: usize) -> usize
     requires { ⌜ at ≤ length (now text) ⌝ }
     ensures value { λ r. ⌜ r ≡ at + index-of 9 (drop at (now (text .entry))) ⌝ }
     ensures within { λ r. ⌜ r ≤ length (now (text .entry)) ⌝ }
@@ -36,7 +36,7 @@ pub fn field_end(text: &[u8], at: usize) -> usize
 }
 
 /// Whether each field of a text is a number.
-pub fn all_numbers(text: &[u8]) -> bool
+pub(crate) fn all_numbers(text: &[u8]) -> bool
     ensures { λ r. ⌜ r ≡ every is-number (fields (now (text .entry))) ⌝ }
 {
     let mut at = 0;
@@ -53,7 +53,7 @@ pub fn all_numbers(text: &[u8]) -> bool
 }
 
 /// Writes the numbers in the fields of a text into the store, from place `first` on.
-pub fn write_numbers(text: &[u8], store: &mut [u16], first: usize)
+pub(crate) fn write_numbers(text: &[u8], store: &mut [u16], first: usize)
     requires { ⌜ first + length (fields (now text)) ≤ length (now store) ⌝ }
     ensures { λ _. ⌜ now (store .exit) ≡ written-at first (map number-or-zero (fields (now (text .entry)))) (now (store .entry)) ⌝ }
 {
@@ -80,7 +80,7 @@ fn literal_of(number: Option<u16>, on: bool) -> Option<Form>
 }
 
 /// The literal that a field writes: a variable's number, with a minus sign in front for off.
-pub fn read_literal(field: &[u8]) -> Option<Form>
+pub(crate) fn read_literal(field: &[u8]) -> Option<Form>
     ensures { λ r. ⌜ r ≡ literal (now (field .entry)) ⌝ }
 {
     if field.len() == 0 {
@@ -145,7 +145,7 @@ fn leaf_line(line: &[u8], form: Form) -> Result<NodeLine, Reason>
 }
 
 /// A node line of a kind.
-pub fn node_line(line_kind: Kind, line: &[u8]) -> Result<NodeLine, Reason>
+pub(crate) fn node_line(line_kind: Kind, line: &[u8]) -> Result<NodeLine, Reason>
     ensures { λ r. ⌜ Heard «line_kind» (fields (now (line .entry))) r ⌝ }
 {
     match line_kind {

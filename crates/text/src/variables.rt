@@ -18,7 +18,7 @@ pub fn same_bytes(a: &[u8], b: &[u8]) -> bool
 
 impl Name {
     /// The name that a text of at most 24 bytes spells; what is longer is cut.
-    pub fn new(text: &[u8]) -> Name
+    pub(crate) fn new(text: &[u8]) -> Name
         ensures { λ r. ⌜ r ≡ name-of (now (text .entry)) ⌝ }
     {
         let length = text.len().min(24);
@@ -42,7 +42,7 @@ impl Name {
 
 impl Variables {
     /// No variables.
-    pub fn none() -> Variables
+    pub(crate) fn none() -> Variables
         ensures { λ r. ⌜ r ≡ variables-of [] ⌝ }
     {
         let blank = Variable {
@@ -56,14 +56,14 @@ impl Variables {
     }
 
     /// The variables in their order.
-    pub(crate) fn as_slice(&self) -> &[Variable]
+    pub fn as_slice(&self) -> &[Variable]
         ensures { λ r. ⌜ now r ≡ listed (now (self .entry)) ⌝ }
     {
         &self.all[0..self.count as usize]
     }
 
     /// Whether one of the variables has this name.
-    pub fn is_named(&self, name: &[u8]) -> bool
+    pub(crate) fn is_named(&self, name: &[u8]) -> bool
         ensures { λ r. ⌜ r ≡ is-named (now (name .entry)) (listed (now (self .entry))) ⌝ }
     {
         let all = self.as_slice();
@@ -76,7 +76,7 @@ impl Variables {
     }
 
     /// How many of the variables are options.
-    pub fn options(&self) -> usize
+    pub(crate) fn options(&self) -> usize
         ensures { λ r. ⌜ r ≡ options (listed (now (self .entry))) ⌝ }
     {
         let all = self.as_slice();
