@@ -10,7 +10,9 @@ use Rattle.text.specs.declared.kind.Kind.{Kind}
 use Rattle.text.specs.declared.nodes.NodeLine.{NodeLine}
 use Rattle.text.specs.declared.progress.Progress.{Progress}
 use Rattle.text.specs.declared.record.Node.{Node}
-use Rattle.text.specs.Format.{Said, Entry, entry-of, entry-says, number-or-zero, Rooms, rooms-for, Sofar, header-of, listed, variables-of}
+use Rattle.text.specs.declared.kind.Section.{Section}
+use Rattle.text.specs.Lines.{fields}
+use Rattle.text.specs.Format.{by-section, line-says, Said, Entry, entry-of, entry-says, number-or-zero, Rooms, rooms-for, Sofar, header-of, listed, variables-of}
 
 -- a store after numbers were written from a place on
 abbrev pub written-at : {A : Type 0} → ℕ → List A → List A → List A
@@ -82,6 +84,14 @@ pub record Taken (before after : State) (said : Said Sofar) : Type 0 where
   pub bounded : Bounded after
   pub untouched : Untouched before after
 
-abbrev pub Steps : State → State → Said Sofar → {U : Type 0} → Result U Reason → Type 0
-Steps before after said (Ok u) = Taken before after said
-Steps before after said (Err r) = (said ≡ Err r) × (after .nodes ≡ before .nodes) × (after .children ≡ before .children)
+abbrev pub Steps : (State → Said Sofar) → State → State → {U : Type 0} → Result U Reason → Type 0
+Steps said before after (Ok u) = Taken before after (said before)
+Steps said before after (Err r) = (said before ≡ Err r) × (after .nodes ≡ before .nodes) × (after .children ≡ before .children)
+
+-- what a line of a kind says in a section
+abbrev pub says-in : Section → Kind → List ℕ → State → Said Sofar
+says-in at k l s = by-section (rooms-of s) (sofar s) (length l) at k (drop 1 (fields l))
+
+-- what a line says
+abbrev pub says : List ℕ → State → Said Sofar
+says l s = line-says (rooms-of s) (sofar s) l

@@ -5,8 +5,8 @@ ghost use mathlib.Core.List.{map};
 ghost use Prim.Native.Nat.{_<_, _≤_, _+_, _^_};
 ghost use lib.ListN.{length, drop};
 ghost use Rattle.text.specs.Lines.{fields};
-ghost use Rattle.text.specs.Format.{section-at, all-read, fitting, listed, number-or-zero, by-section, line-says, file-says, overwritten, rooms-for};
-ghost use Rattle.text.specs.Steps.{begun, state, sofar, rooms-of, Bounded, Steps, written-at};
+ghost use Rattle.text.specs.Format.{section-at, all-read, fitting, listed, number-or-zero, file-says, overwritten, rooms-for};
+ghost use Rattle.text.specs.Steps.{begun, state, says-in, says, Bounded, Steps, written-at};
 ghost use Rattle.text.specs.declared.kind.Kind.the-variants as kind;
 ghost use Rattle.text.specs.declared.kind.Section.the-variants as section;
 use crate::fault::Fault;
@@ -97,7 +97,7 @@ impl Progress {
         requires bounded { ⌜ Bounded (state (now self) (now nodes) (now children)) ⌝ }
         requires first { ⌜ now self .line ≡ 1 ⌝ }
         requires room { ⌜ now self .place + (length (now line) + 1) ≤ 65536 ⌝ }
-        ensures { λ r. ⌜ Steps (state (now (self .entry)) (now (nodes .entry)) (now (children .entry))) (state (now (self .exit)) (now (nodes .entry)) (now (children .entry))) (by-section (rooms-of (state (now (self .entry)) (now (nodes .entry)) (now (children .entry)))) (sofar (state (now (self .entry)) (now (nodes .entry)) (now (children .entry)))) (length (now (line .entry))) section.Header kind.Header (drop 1 (fields (now (line .entry))))) r ⌝ }
+        ensures { λ r. ⌜ Steps (says-in section.Header kind.Header (now (line .entry))) (state (now (self .entry)) (now (nodes .entry)) (now (children .entry))) (state (now (self .exit)) (now (nodes .entry)) (now (children .entry))) r ⌝ }
     {
         self.header = header_line(line, nodes.len(), children.len())?;
         self.line += 1;
@@ -110,7 +110,7 @@ impl Progress {
         requires bounded { ⌜ Bounded (state (now self) (now nodes) (now children)) ⌝ }
         requires due { ⌜ length (listed (now self .variables)) < now self .header .variables ⌝ }
         requires room { ⌜ now self .place + (length (now line) + 1) ≤ 65536 ⌝ }
-        ensures { λ r. ⌜ Steps (state (now (self .entry)) (now (nodes .entry)) (now (children .entry))) (state (now (self .exit)) (now (nodes .entry)) (now (children .entry))) (by-section (rooms-of (state (now (self .entry)) (now (nodes .entry)) (now (children .entry)))) (sofar (state (now (self .entry)) (now (nodes .entry)) (now (children .entry)))) (length (now (line .entry))) section.Variables kind.Variable (drop 1 (fields (now (line .entry))))) r ⌝ }
+        ensures { λ r. ⌜ Steps (says-in section.Variables kind.Variable (now (line .entry))) (state (now (self .entry)) (now (nodes .entry)) (now (children .entry))) (state (now (self .exit)) (now (nodes .entry)) (now (children .entry))) r ⌝ }
     {
         let variable = variable_line(line, &self.variables)?;
         self.variables.push(variable);
@@ -130,7 +130,7 @@ impl Progress {
         requires bounded { ⌜ Bounded (state (now self) (now nodes) (now children)) ⌝ }
         requires due { ⌜ now self .nodes < now self .header .nodes ⌝ }
         requires room { ⌜ now self .place + (length (now line) + 1) ≤ 65536 ⌝ }
-        ensures { λ r. ⌜ Steps (state (now (self .entry)) (now (nodes .entry)) (now (children .entry))) (state (now (self .exit)) (now (nodes .exit)) (now (children .exit))) (by-section (rooms-of (state (now (self .entry)) (now (nodes .entry)) (now (children .entry)))) (sofar (state (now (self .entry)) (now (nodes .entry)) (now (children .entry)))) (length (now (line .entry))) section.Nodes «line_kind» (drop 1 (fields (now (line .entry))))) r ⌝ }
+        ensures { λ r. ⌜ Steps (says-in section.Nodes «line_kind» (now (line .entry))) (state (now (self .entry)) (now (nodes .entry)) (now (children .entry))) (state (now (self .exit)) (now (nodes .exit)) (now (children .exit))) r ⌝ }
     {
         let said = node_line(line_kind, line)?;
         let count = field_count(line) - said.from;
@@ -160,7 +160,7 @@ impl Progress {
         requires bounded { ⌜ Bounded (state (now self) (now nodes) (now children)) ⌝ }
         requires due { ⌜ all-read (now self .header) (now self .line) (length (listed (now self .variables))) (now self .nodes) ≡ false ⌝ }
         requires room { ⌜ now self .place + (length (now line) + 1) ≤ 65536 ⌝ }
-        ensures { λ r. ⌜ Steps (state (now (self .entry)) (now (nodes .entry)) (now (children .entry))) (state (now (self .exit)) (now (nodes .exit)) (now (children .exit))) (line-says (rooms-of (state (now (self .entry)) (now (nodes .entry)) (now (children .entry)))) (sofar (state (now (self .entry)) (now (nodes .entry)) (now (children .entry)))) (now (line .entry))) r ⌝ }
+        ensures { λ r. ⌜ Steps (says (now (line .entry))) (state (now (self .entry)) (now (nodes .entry)) (now (children .entry))) (state (now (self .exit)) (now (nodes .exit)) (now (children .exit))) r ⌝ }
     {
         if !all_printable(line) {
             return Err(Reason::Line);
