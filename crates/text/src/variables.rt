@@ -76,7 +76,7 @@ impl Variables {
     }
 
     /// How many of the variables are options.
-    pub(crate) fn options(&self) -> usize
+    pub fn options(&self) -> usize
         ensures { λ r. ⌜ r ≡ options (listed (now (self .entry))) ⌝ }
     {
         let all = self.as_slice();
