@@ -1,12 +1,12 @@
 -- Lemmas on what the program prints. Assumes nothing.
 use mathlib.Core.Path.{_≡_, refl, ap, sym, _∙_, subst}
 use mathlib.Core.List.{List, [], _∷_, _++_}
-use Prim.Native.Nat.{ℕ, _+_, _-_, _≤_, _<_, zero-le}
-use native.Mathlib.Nat.{sub-zero}
+use Prim.Native.Nat.{ℕ, _+_, _-_, _≤_, _<_}
 use native.Mathlib.Omega.{arith}
 use lib.ListN.{length, getD, take, drop}
 use Rattle.std.proofs.shelf.Lists.{at-drop-more, length-take}
-use Rattle.text.specs.Format.{options, one-if-option, listed}
+use Rattle.text.specs.Format.{options, listed}
+use Rattle.text.proofs.Says.{options-within as options-few}
 use Rattle.text.specs.declared.record.Role.{Role}
 use Rattle.text.specs.declared.record.Role.the-variants as role
 use Rattle.text.specs.declared.record.Variable.{Variable}
@@ -27,19 +27,8 @@ use Rattle.quote.specs.Report.{with-form, total, no-forms, forms-on, forms-of,
 
 -- not more options than variables
 
-one-option-at-most : (r : Role) → one-if-option r ≤ 1
-one-option-at-most role.Option = omega arith
-one-option-at-most role.Chance = omega arith
-
-options-at-most : (vs : List Variable) → options vs ≤ length vs
-options-at-most [] = zero-le
-options-at-most (v ∷ vs) = omega (arith, one-option-at-most (v .role), options-at-most vs)
-
 pub options-within : (vs : Variables) → options (listed vs) ≤ vs .count
-options-within vs = omega (arith, options-at-most (listed vs), length-take (vs .count) (vs .all))
-
-pub listed-part : (vs : Variables) → take (vs .count - 0) (vs .all) ≡ listed vs
-listed-part vs = ap (λ n. take n (vs .all)) (sub-zero (vs .count))
+options-within vs = omega (arith, options-few (listed vs), length-take (vs .count) (vs .all))
 
 -- one node more
 

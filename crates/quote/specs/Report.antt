@@ -103,7 +103,7 @@ contents-of c ns =
     ++ (forms-of (forms-on no-forms (take (c .nodes) ns))
     ++ (counted (codes "weights begin") (c .weights) ∷ [])))
 
--- every name of these variables is ASCII, as every name is that the reader accepts
+-- every name of these variables is ASCII, as the reader sees to
 abbrev pub Plain-names : List Variable → Type 0
 Plain-names vs = (k : ℕ) (d : Variable) → k < length vs → Ascii (spelled (getD vs k d .name))
 
@@ -122,7 +122,7 @@ rooms = record { nodes = node-room; children = child-room }
 
 -- what is printed for an answer of the reader, with the node records that it wrote
 abbrev pub Answered : Result Contents Fault → List Node → List ℕ → Type 0
-Answered (Ok c) written text = Plain-names (listed (c .variables)) → text ≡ text-of (contents-of c (overwritten written (replicate node-room unused)))
+Answered (Ok c) written text = text ≡ text-of (contents-of c (overwritten written (replicate node-room unused)))
 Answered (Err f) written text = text ≡ text-of (refusal f ∷ [])
 
 -- what is printed for a file

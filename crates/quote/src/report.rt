@@ -114,8 +114,7 @@ pub fn contents_text(
     ensures { λ r. ⌜ made r (λ s. Plain-names (listed (now (contents .entry) .variables)) → string-bytes s ≡ text-of (contents-of (now (contents .entry)) (now (nodes .entry)))) ⌝ }
 {
     let counts = counts_text(heap, contents)?;
-    let count = contents.variables.count as usize;
-    let variables = variables_text(heap, &contents.variables.all[0..count])?;
+    let variables = variables_text(heap, contents.variables.as_slice())?;
     let forms = forms_text(
         heap,
         count_forms(first_nodes(nodes, contents.nodes as usize)),

@@ -7,3 +7,4 @@ pub mod Stores
 pub mod Limits
 pub mod Sections
 pub mod Runs
+pub mod Printable

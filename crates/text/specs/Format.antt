@@ -321,6 +321,10 @@ file-says rooms bytes =
     (read-on rooms nothing-yet (lines bytes))
     (record { nodes = []; children = []; answer = Err fault.Length })
 
+-- whether a variable's name has only bytes that may stand in a line
+abbrev pub named-printable : Variable → Bool
+named-printable v = every printable (spelled (v .name))
+
 -- a store after its first places were written
 abbrev pub overwritten : {A : Type 0} → List A → List A → List A
 overwritten written store = written ++ drop (length written) store

@@ -28,7 +28,11 @@ pub fn number_field(line: &[u8], k: usize) -> Result<u16, Reason>
 }
 
 /// The header line, with the lengths of the two stores.
-pub(crate) fn header_line(line: &[u8], node_room: usize, child_room: usize) -> Result<Header, Reason>
+pub(crate) fn header_line(
+    line: &[u8],
+    node_room: usize,
+    child_room: usize,
+) -> Result<Header, Reason>
     ensures { λ r. ⌜ r ≡ header-says (record { nodes = «node_room»; children = «child_room» }) (drop 1 (fields (now (line .entry)))) ⌝ }
 {
     if field_count(line) != 4 {

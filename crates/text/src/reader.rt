@@ -1,11 +1,12 @@
 //! The reader of a table file.
 ghost use mathlib.Core.Path.{_≡_};
-ghost use mathlib.Core.Bool.{false};
+ghost use mathlib.Core.Bool.{true, false};
 ghost use mathlib.Core.List.{map};
 ghost use Prim.Native.Nat.{_<_, _≤_, _+_, _^_};
 ghost use lib.ListN.{length, drop};
-ghost use Rattle.text.specs.Lines.{fields};
-ghost use Rattle.text.specs.Format.{section-at, all-read, fitting, listed, number-or-zero, file-says, overwritten, rooms-for};
+ghost use Rattle.std.specs.Results.{Cases};
+ghost use Rattle.text.specs.Lines.{every, fields};
+ghost use Rattle.text.specs.Format.{section-at, all-read, fitting, listed, number-or-zero, file-says, overwritten, rooms-for, named-printable};
 ghost use Rattle.text.specs.Steps.{begun, state, says-in, says, Bounded, Steps, written-at};
 ghost use Rattle.text.specs.declared.kind.Kind.the-variants as kind;
 ghost use Rattle.text.specs.declared.kind.Section.the-variants as section;
@@ -186,6 +187,7 @@ pub fn read_table(file: &[u8], nodes: &mut [Node], children: &mut [u16]) -> Resu
     ensures answer { λ r. ⌜ r ≡ file-says (rooms-for (now (nodes .entry)) (now (children .entry))) (now (file .entry)) .answer ⌝ }
     ensures nodes { λ _. ⌜ now (nodes .exit) ≡ overwritten (file-says (rooms-for (now (nodes .entry)) (now (children .entry))) (now (file .entry)) .nodes) (now (nodes .entry)) ⌝ }
     ensures children { λ _. ⌜ now (children .exit) ≡ overwritten (file-says (rooms-for (now (nodes .entry)) (now (children .entry))) (now (file .entry)) .children) (now (children .entry)) ⌝ }
+    ensures names { λ r. ⌜ Cases r (λ c. every named-printable (listed (c .variables)) ≡ true) (λ _. Unit {0}) ⌝ }
 {
     if file.len() < 1 || file.len() > 65536 {
         return Err(Fault::Length);

@@ -3,7 +3,7 @@ use mathlib.Core.List.{List}
 use Rattle.std.specs.Of.String.{string-bytes}
 use Rattle.text.specs.declared.record.Variable.{Variable}
 use Rattle.quote.specs.Report.{text-of, described-from, Plain-names, no-forms, forms-on, forms-of}
-use Rattle.quote.proofs.Listing.{listed-part, contents-printed}
+use Rattle.quote.proofs.Listing.{contents-printed}
 use Rattle.quote.proofs.report.contents_text.Needs as need
 
 pub returns : need.returns
@@ -14,6 +14,6 @@ returns c =
     let P : List Variable → Type 0 = λ vs. Plain-names vs → variables ≡ text-of (described-from 1 vs) in
     contents-printed string-bytes (c .format .result) (c .args .contents .now) (c .args .nodes .now) counts variables forms
     (c .in-Continue-counts .ensures tt)
-    (subst P (listed-part (c .args .contents .now .variables)) (c .in-Continue-variables .ensures tt))
+    (subst P (c .as-slice .ensures) (c .in-Continue-variables .ensures tt))
     (c .in-Continue-forms .ensures tt ∙ ap (λ f. text-of (forms-of f)) (c .count-forms .ensures) ∙ ap (λ ns. text-of (forms-of (forms-on no-forms ns))) (c .first-nodes .ensures))
     (c .format .ensures .made)

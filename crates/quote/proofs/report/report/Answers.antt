@@ -2,7 +2,7 @@ use mathlib.Core.Path.{_∙_}
 use lib.ListN.{length, drop}
 use Rattle.std.specs.Of.String.{string-bytes}
 use Rattle.std.proofs.shelf.Results.{made-from-err}
-use Rattle.quote.proofs.Reporting.{kept, refused-report, accepted-report}
+use Rattle.quote.proofs.Reporting.{kept, refused-report, plain-names, accepted-report}
 use Rattle.quote.proofs.report.report.Needs as need
 
 pub returns-in-Break-children : need.returns-in-Break-children
@@ -17,7 +17,7 @@ returns-in-Ok c =
     (c .deref-mut-2 .result .now) (c .in-Ok .contents)
     (c .deref-mut .ensures .value ∙ c .in-Continue-nodes .ensures tt .exact (λ y e. e))
     (c .deref-mut-2 .ensures .value ∙ c .in-Continue-children .ensures tt .exact (λ y e. e))
-    (c .in-Ok .ensures tt .answer) (after ∙ c .in-Ok .ensures tt .nodes) (c .contents-text .ensures)
+    (c .in-Ok .ensures tt .answer) (after ∙ c .in-Ok .ensures tt .nodes) (plain-names _ (c .in-Ok .ensures tt .names)) (c .contents-text .ensures)
 
 pub returns : need.returns
 returns c =
