@@ -46,36 +46,3 @@ fn with_digit(value: u64, byte: u8, cap: u64) -> Option<u64>
     let next = value.checked_mul(10)?.checked_add(u64::from(byte - b'0'))?;
     if next <= cap { Some(next) } else { None }
 }
-
-#[cfg(test)]
-mod tests {
-    use super::*;
-    use std::test::*;
-
-    #[test]
-    fn edges_of_a_number() -> Result<(), Fail> {
-        let cases = [
-            ("0", Some(0)),
-            ("9", Some(9)),
-            ("65535", Some(65535)),
-            ("65536", None),
-            ("100000", None),
-            ("00", None),
-            ("07", None),
-            ("", None),
-            ("+1", None),
-            ("1 ", None),
-            ("/", None),
-            (":", None),
-        ];
-        for (field, value) in cases.iter() {
-            check_eq(read_number(field.as_bytes()), *value).note(*field)?;
-        }
-        check_eq(
-            read_numeral(b"18446744073709551615", 20, u64::MAX),
-            Some(u64::MAX),
-        )?;
-        check_eq(read_numeral(b"18446744073709551616", 20, u64::MAX), None)?;
-        check_eq(read_numeral(b"5", 0, 9), None)
-    }
-}
