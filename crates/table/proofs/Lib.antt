@@ -1,0 +1,13 @@
+pub mod Listed
+pub mod Upward
+pub mod Truths
+pub mod Decided
+pub mod Sounds
+pub mod Numbers
+pub mod Packs
+pub mod Folds
+pub mod Chances
+pub mod Agree
+pub mod Surveys
+pub mod Yes
+pub mod Asked

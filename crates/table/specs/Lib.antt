@@ -1,0 +1,10 @@
+pub mod Circuit
+pub mod Sound
+pub mod Nodes
+pub mod Faults
+pub mod Sets
+pub mod Check
+pub mod Facts
+pub mod Whole
+pub mod Count
+pub mod Masks
