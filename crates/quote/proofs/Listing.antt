@@ -3,12 +3,10 @@ use mathlib.Core.Path.{_≡_, refl, ap, sym, _∙_, subst}
 use mathlib.Core.List.{List, [], _∷_, _++_}
 use Prim.Native.Nat.{ℕ, _+_, _-_, _≤_, _<_}
 use native.Mathlib.Omega.{arith}
-use lib.ListN.{length, getD, take, drop}
+use lib.ListN.{length, getD, drop}
 use Rattle.std.proofs.shelf.Lists.{at-drop-more, length-take}
 use Rattle.text.specs.Format.{options, listed}
 use Rattle.text.proofs.Says.{options-within as options-few}
-use Rattle.text.specs.declared.record.Role.{Role}
-use Rattle.text.specs.declared.record.Role.the-variants as role
 use Rattle.text.specs.declared.record.Variable.{Variable}
 use Rattle.text.specs.declared.record.Variables.{Variables}
 use Rattle.text.specs.declared.record.Form.{Form}
@@ -17,13 +15,12 @@ use Rattle.text.specs.declared.record.Node.{Node}
 use Rattle.quote.specs.declared.report.Forms.{Forms}
 use lib.Chars.{codes}
 use Rattle.std.specs.Vec.{made}
-use Rattle.std.specs.Written.{decimal}
 use Rattle.std.specs.declared.result.Result.{Result}
 use Rattle.std.specs.declared.result.Result.the-variants.{Ok, Err}
 use Rattle.std.specs.Text.{Ascii}
 use Rattle.text.specs.Format.{spelled}
 use Rattle.text.specs.declared.record.Contents.{Contents}
-use Rattle.quote.specs.Report.{with-form, total, no-forms, forms-on, forms-of, fields-onto, line-onto, text-of, counted, counts-of, role-word-of, described, described-from, contents-of, Plain-names}
+use Rattle.quote.specs.Report.{with-form, total, no-forms, forms-on, forms-of, fields-onto, line-onto, text-of, counted, counts-of, described, described-from, contents-of, Plain-names}
 
 -- not more options than variables
 
@@ -41,7 +38,7 @@ total-more f False = omega arith
 
 -- a text behind a text
 
-append-assoc : (a b c : List ℕ) → a ++ b ++ c ≡ a ++ (b ++ c)
+pub append-assoc : (a b c : List ℕ) → a ++ b ++ c ≡ a ++ (b ++ c)
 append-assoc [] b c = refl
 append-assoc (x ∷ a) b c = ap (λ l. x ∷ l) (append-assoc a b c)
 
@@ -62,13 +59,13 @@ text-then (l ∷ ls) ms = ap (line-onto l) (text-then ls ms) ∙ sym (line-then 
 pub plain-at : (xs : List Variable) (i : ℕ) (v : Variable) → i < length xs → v ≡ getD xs i v → Plain-names xs → Ascii (spelled (v .name))
 plain-at xs i v lt is plain = let P : Variable → Type 0 = λ w. Ascii (spelled (w .name)) in subst P (sym is) (plain i v lt)
 
-described-more : (xs : List Variable) (i : ℕ) (v : Variable) → i < length xs → v ≡ getD xs i v → text-of (described-from (i + 1) (drop i xs)) ≡ text-of (described (i + 1) v ∷ []) ++ text-of (described-from (i + 1 + 1) (drop (i + 1) xs))
+described-more : (xs : List Variable) (i : ℕ) (v : Variable) → i < length xs → v ≡ getD xs i v → text-of (described-from (i + 1) (drop i xs)) ≡ text-of (described (codes "variable") (i + 1) v ∷ []) ++ text-of (described-from (i + 1 + 1) (drop (i + 1) xs))
 described-more xs i v lt is =
     at-drop-more (λ ys. text-of (described-from (i + 1) ys)) xs i v lt
-    ∙ ap (λ w. text-of (described (i + 1) w ∷ described-from (i + 1 + 1) (drop (i + 1) xs))) (sym is)
-    ∙ text-then (described (i + 1) v ∷ []) (described-from (i + 1 + 1) (drop (i + 1) xs))
+    ∙ ap (λ w. text-of (described (codes "variable") (i + 1) w ∷ described-from (i + 1 + 1) (drop (i + 1) xs))) (sym is)
+    ∙ text-then (described (codes "variable") (i + 1) v ∷ []) (described-from (i + 1 + 1) (drop (i + 1) xs))
 
-pub variables-more : (xs : List Variable) (i : ℕ) (v : Variable) (t line t′ : List ℕ) → i < length xs → v ≡ getD xs i v → t′ ≡ t ++ line → line ≡ text-of (described (i + 1) v ∷ []) → t ++ text-of (described-from (i + 1) (drop i xs)) ≡ text-of (described-from 1 xs) → t′ ++ text-of (described-from (i + 1 + 1) (drop (i + 1) xs)) ≡ text-of (described-from 1 xs)
+pub variables-more : (xs : List Variable) (i : ℕ) (v : Variable) (t line t′ : List ℕ) → i < length xs → v ≡ getD xs i v → t′ ≡ t ++ line → line ≡ text-of (described (codes "variable") (i + 1) v ∷ []) → t ++ text-of (described-from (i + 1) (drop i xs)) ≡ text-of (described-from 1 xs) → t′ ++ text-of (described-from (i + 1 + 1) (drop (i + 1) xs)) ≡ text-of (described-from 1 xs)
 variables-more xs i v t line t′ lt is et e h =
     let rest = text-of (described-from (i + 1 + 1) (drop (i + 1) xs)) in
     ap (λ l. l ++ rest) et
@@ -79,17 +76,10 @@ variables-more xs i v t line t′ lt is et e h =
 
 -- A text that was made of parts, under what is known of the parts.
 
-pub variable-printed : {X Y : Type 0} (bytes : X → List ℕ) (r : Result X Y) (number : ℕ) (v : Variable) (role name : List ℕ) → role ≡ role-word-of (v .role) → (Ascii (spelled (v .name)) → name ≡ spelled (v .name)) → made r (λ s. bytes s ≡ text-of ((codes "variable" ∷ decimal number ∷ role ∷ name ∷ []) ∷ [])) → made r (λ s. Ascii (spelled (v .name)) → bytes s ≡ text-of (described number v ∷ []))
-variable-printed bytes (Ok s) number v role name er en e =
-    λ plain. e
-    ∙ ap (λ w. text-of ((codes "variable" ∷ decimal number ∷ w ∷ name ∷ []) ∷ [])) er
-    ∙ ap (λ w. text-of ((codes "variable" ∷ decimal number ∷ role-word-of (v .role) ∷ w ∷ []) ∷ [])) (en plain)
-variable-printed bytes (Err y) number v role name er en e = tt
-
-contents-parts : (c : Contents) (ns : List Node) (a b d : List ℕ) → a ≡ text-of (counts-of c) → b ≡ text-of (described-from 1 (listed (c .variables))) → d ≡ text-of (forms-of (forms-on no-forms (take (c .nodes) ns))) → a ++ (b ++ (d ++ text-of (counted (codes "weights begin") (c .weights) ∷ []))) ≡ text-of (contents-of c ns)
+contents-parts : (c : Contents) (ns : List Node) (a b d : List ℕ) → a ≡ text-of (counts-of c) → b ≡ text-of (described-from 1 (listed (c .variables))) → d ≡ text-of (forms-of (forms-on no-forms ns)) → a ++ (b ++ (d ++ text-of (counted (codes "weights begin") (c .weights) ∷ []))) ≡ text-of (contents-of c ns)
 contents-parts c ns a b d ea eb ed =
     let w = counted (codes "weights begin") (c .weights) ∷ [] in
-    let f = forms-of (forms-on no-forms (take (c .nodes) ns)) in
+    let f = forms-of (forms-on no-forms ns) in
     let vs = described-from 1 (listed (c .variables)) in
     ap (λ l. l ++ (b ++ (d ++ text-of w))) ea
     ∙ ap (λ l. text-of (counts-of c) ++ (l ++ (d ++ text-of w))) eb
@@ -98,6 +88,6 @@ contents-parts c ns a b d ea eb ed =
     ∙ ap (λ l. text-of (counts-of c) ++ l) (sym (text-then vs (f ++ w)))
     ∙ sym (text-then (counts-of c) (vs ++ (f ++ w)))
 
-pub contents-printed : {X Y : Type 0} (bytes : X → List ℕ) (r : Result X Y) (c : Contents) (ns : List Node) (a b d : List ℕ) → a ≡ text-of (counts-of c) → (Plain-names (listed (c .variables)) → b ≡ text-of (described-from 1 (listed (c .variables)))) → d ≡ text-of (forms-of (forms-on no-forms (take (c .nodes) ns))) → made r (λ s. bytes s ≡ a ++ (b ++ (d ++ text-of (counted (codes "weights begin") (c .weights) ∷ [])))) → made r (λ s. Plain-names (listed (c .variables)) → bytes s ≡ text-of (contents-of c ns))
+pub contents-printed : {X Y : Type 0} (bytes : X → List ℕ) (r : Result X Y) (c : Contents) (ns : List Node) (a b d : List ℕ) → a ≡ text-of (counts-of c) → (Plain-names (listed (c .variables)) → b ≡ text-of (described-from 1 (listed (c .variables)))) → d ≡ text-of (forms-of (forms-on no-forms ns)) → made r (λ s. bytes s ≡ a ++ (b ++ (d ++ text-of (counted (codes "weights begin") (c .weights) ∷ [])))) → made r (λ s. Plain-names (listed (c .variables)) → bytes s ≡ text-of (contents-of c ns))
 contents-printed bytes (Ok s) c ns a b d ea eb ed e = λ plain. e ∙ contents-parts c ns a b d ea (eb plain) ed
 contents-printed bytes (Err y) c ns a b d ea eb ed e = tt

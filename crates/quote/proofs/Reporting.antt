@@ -1,5 +1,5 @@
 -- What is printed for a file, from what is printed for the reader's answer. Assumes nothing.
-use mathlib.Core.Path.{_≡_, ap, sym, _∙_, subst}
+use mathlib.Core.Path.{_≡_, ap, _∙_, subst}
 use mathlib.Core.Bool.{true, _&&_}
 use mathlib.Core.List.{List, [], _∷_, _++_}
 use mathlib.Core.Logic.{⊎-elim}
@@ -18,10 +18,11 @@ use Rattle.std.proofs.shelf.Tests.{and-parts, or-cases, eqb-true, leb-true}
 use Rattle.text.specs.Lines.{every, printable}
 use Rattle.text.specs.Format.{Rooms, rooms-for, file-says, overwritten, listed, spelled, named-printable}
 use Rattle.text.specs.declared.record.Variable.{Variable}
-use Rattle.text.specs.declared.fault.Fault.{Fault}
+use Rattle.text.specs.declared.fault.Fault as text
 use Rattle.text.specs.declared.record.Contents.{Contents}
 use Rattle.text.specs.declared.record.Node.{Node}
-use Rattle.quote.specs.Report.{text-of, refusal, contents-of, Plain-names, node-room, child-room, unused, rooms, Answered, Reported}
+use Rattle.table.specs.declared.fault.Fault.the-variants.{Text}
+use Rattle.quote.specs.Report.{text-of, refusal, checked, Plain-names, node-room, child-room, unused, rooms, read-by, reported}
 
 abbrev room : ℕ → ℕ → Rooms
 room n c = record { nodes = n; children = c }
@@ -31,13 +32,15 @@ rooms-are ns cs en ec =
     ap (λ n. room n (length cs)) (ap length en ∙ length-replicate node-room unused)
     ∙ ap (λ n. room node-room n) (ap length ec ∙ length-replicate {A = ℕ} child-room 0)
 
-pub refused-report : {X Y : Type 0} (bytes : X → List ℕ) (r : Result X Y) (file : List ℕ) (ns : List Node) (cs : List ℕ) (fault : Fault) → ns ≡ replicate node-room unused → cs ≡ replicate child-room 0 → Err fault ≡ file-says (rooms-for ns cs) file .answer → made r (λ s. bytes s ≡ text-of (refusal fault ∷ [])) → made r (λ s. Reported file (bytes s))
-refused-report bytes r file ns cs fault en ec answer printed =
-    let P : Result Contents Fault → Type 0 = λ a. made r (λ s. Answered a (file-says rooms file .nodes) (bytes s)) in
-    subst P (answer ∙ ap (λ q. file-says q file .answer) (rooms-are ns cs en ec)) printed
+-- the stores as the reader leaves them
+abbrev nodes-left : List ℕ → List Node
+nodes-left file = overwritten (file-says rooms file .nodes) (replicate node-room unused)
 
--- a store of records that the reader wrote into, as its owner sees it afterwards
-pub kept : (after last rest : List Node) (len n : ℕ) → after ≡ take len (last ++ rest) → length last ≡ n → n ≡ len → after ≡ last
+abbrev children-left : List ℕ → List ℕ
+children-left file = overwritten (file-says rooms file .children) (replicate child-room 0)
+
+-- a store that the reader wrote into, as its owner sees it afterwards
+pub kept : {A : Type 0} (after last rest : List A) (len n : ℕ) → after ≡ take len (last ++ rest) → length last ≡ n → n ≡ len → after ≡ last
 kept after last rest len n e l k = e ∙ take-at last rest len (l ∙ k)
 
 -- printable names are ASCII
@@ -53,10 +56,22 @@ plain-names [] h k d l = absurd (omega arith)
 plain-names (v ∷ vs) h zero d l = printable-ascii (spelled (v .name)) (and-parts (named-printable v) (every named-printable vs) h .0)
 plain-names (v ∷ vs) h (suc k) d l = plain-names vs (and-parts (named-printable v) (every named-printable vs) h .1) k d (omega arith)
 
-pub accepted-report : {X Y : Type 0} (bytes : X → List ℕ) (r : Result X Y) (file : List ℕ) (ns after : List Node) (cs : List ℕ) (c : Contents) → ns ≡ replicate node-room unused → cs ≡ replicate child-room 0 → Ok c ≡ file-says (rooms-for ns cs) file .answer → after ≡ overwritten (file-says (rooms-for ns cs) file .nodes) ns → Plain-names (listed (c .variables)) → made r (λ s. Plain-names (listed (c .variables)) → bytes s ≡ text-of (contents-of c after)) → made r (λ s. Reported file (bytes s))
-accepted-report bytes r file ns after cs c en ec answer left names printed =
-    let P : Result Contents Fault → Type 0 = λ a. made r (λ s. Answered a (file-says rooms file .nodes) (bytes s)) in
-    let Q : List Node → Type 0 = λ l. made r (λ s. bytes s ≡ text-of (contents-of c l)) in
-    let told : made r (λ s. bytes s ≡ text-of (contents-of c after)) = made-weaker r _ _ (λ s h. h names) printed in
-    let stored = left ∙ ap (λ q. overwritten (file-says q file .nodes) ns) (rooms-are ns cs en ec) ∙ ap (overwritten (file-says rooms file .nodes)) en in
-    subst P (answer ∙ ap (λ q. file-says q file .answer) (rooms-are ns cs en ec)) (subst Q stored told)
+module _ (file : List ℕ) (ns : List Node) (cs : List ℕ) (en : ns ≡ replicate node-room unused) (ec : cs ≡ replicate child-room 0) where
+  given : file-says (rooms-for ns cs) file ≡ file-says rooms file
+  given = ap (λ q. file-says q file) (rooms-are ns cs en ec)
+
+  pub accepted-report : {X Y : Type 0} (bytes : X → List ℕ) (r : Result X Y) (c : Contents) (before after : List Node) (begun ended : List ℕ) → Ok c ≡ file-says (rooms-for ns cs) file .answer → before ≡ overwritten (file-says (rooms-for ns cs) file .nodes) ns → begun ≡ overwritten (file-says (rooms-for ns cs) file .children) cs → after ≡ take (c .nodes) before → ended ≡ take (c .children) begun → Plain-names (listed (c .variables)) → made r (λ s. Plain-names (listed (c .variables)) → bytes s ≡ text-of (checked c after ended)) → made r (λ s. bytes s ≡ text-of (reported file))
+  accepted-report bytes r c before after begun ended answer wrote filled cut-nodes cut-children names printed =
+      let P : Result Contents text.Fault → Type 0 = λ a. made r (λ s. bytes s ≡ text-of (read-by a (nodes-left file) (children-left file))) in
+      let Q : List Node → Type 0 = λ l. made r (λ s. bytes s ≡ text-of (checked c l ended)) in
+      let R : List ℕ → Type 0 = λ l. made r (λ s. bytes s ≡ text-of (checked c (take (c .nodes) (nodes-left file)) l)) in
+      let told : made r (λ s. bytes s ≡ text-of (checked c after ended)) = made-weaker r _ _ (λ s h. h names) printed in
+      let stored = wrote ∙ ap (λ q. overwritten (q .nodes) ns) given ∙ ap (overwritten (file-says rooms file .nodes)) en in
+      let kept-numbers = filled ∙ ap (λ q. overwritten (q .children) cs) given ∙ ap (overwritten (file-says rooms file .children)) ec in
+      subst P (answer ∙ ap (λ q. q .answer) given)
+      (subst R (cut-children ∙ ap (take (c .children)) kept-numbers) (subst Q (cut-nodes ∙ ap (take (c .nodes)) stored) told))
+
+  pub refused-report : {X Y : Type 0} (bytes : X → List ℕ) (r : Result X Y) (fault : text.Fault) → Err fault ≡ file-says (rooms-for ns cs) file .answer → made r (λ s. bytes s ≡ text-of (refusal (Text fault) ∷ [])) → made r (λ s. bytes s ≡ text-of (reported file))
+  refused-report bytes r fault answer printed =
+      let P : Result Contents text.Fault → Type 0 = λ a. made r (λ s. bytes s ≡ text-of (read-by a (nodes-left file) (children-left file))) in
+      subst P (answer ∙ ap (λ q. q .answer) given) printed

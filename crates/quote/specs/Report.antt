@@ -1,5 +1,5 @@
 -- The text that the program prints, as bytes. Assumes nothing.
-use mathlib.Core.Path.{_≡_}
+use mathlib.Core.Bool.{cond}
 use mathlib.Core.List.{List, [], _∷_, _++_}
 use Prim.Native.Nat.{ℕ, _+_, _-_, _<_}
 use lib.Chars.{codes}
@@ -8,9 +8,8 @@ use Rattle.std.specs.declared.result.Result.{Result}
 use Rattle.std.specs.declared.result.Result.the-variants.{Ok, Err}
 use Rattle.std.specs.Text.{Ascii}
 use Rattle.std.specs.Written.{decimal}
-use Rattle.text.specs.Faults.{fault-number, fault-place}
 use Rattle.text.specs.Format.{spelled, listed, options, Rooms, file-says, overwritten}
-use Rattle.text.specs.declared.fault.Fault.{Fault}
+use Rattle.text.specs.declared.fault.Fault as text
 use Rattle.text.specs.declared.record.Role.{Role}
 use Rattle.text.specs.declared.record.Role.the-variants as role
 use Rattle.text.specs.declared.record.Variable.{Variable}
@@ -19,6 +18,14 @@ use Rattle.text.specs.declared.record.Form.{Form}
 use Rattle.text.specs.declared.record.Form.the-variants.{Literal, And, Fork, True, False}
 use Rattle.text.specs.declared.record.Node.{Node}
 use Rattle.text.specs.declared.record.Contents.{Contents}
+use Rattle.table.specs.Faults.{fault-number, fault-place}
+use Rattle.table.specs.Circuit.{Shape, Vars}
+use Rattle.table.specs.Nodes.{shapes}
+use Rattle.table.specs.Facts.{about}
+use Rattle.table.specs.Check.{check-says}
+use Rattle.table.specs.declared.fault.Fault.{Fault}
+use Rattle.table.specs.declared.fault.Fault.the-variants.{Text}
+use Rattle.table.specs.declared.mentions.Mentions.{Mentions}
 use Rattle.quote.specs.declared.report.Forms.{Forms}
 
 -- A text is a list of lines, a line a list of fields.
@@ -36,7 +43,7 @@ abbrev pub text-of : List (List (List ℕ)) → List ℕ
 text-of [] = []
 text-of (l ∷ ls) = line-onto l (text-of ls)
 
--- for a refused file: X, the refusal's number and its place
+-- for a refused file or table: X, the refusal's number and its place
 abbrev pub refusal : Fault → List (List ℕ)
 refusal f = codes "X" ∷ decimal (fault-number f) ∷ decimal (fault-place f) ∷ []
 
@@ -58,14 +65,14 @@ abbrev pub role-word-of : Role → List ℕ
 role-word-of role.Option = codes "option"
 role-word-of role.Chance = codes "chance"
 
--- a variable: its number, what it is, its name
-abbrev pub described : ℕ → Variable → List (List ℕ)
-described number v = codes "variable" ∷ decimal number ∷ role-word-of (v .role) ∷ spelled (v .name) ∷ []
+-- words on a variable: its number, what it is, its name
+abbrev pub described : List ℕ → ℕ → Variable → List (List ℕ)
+described words number v = words ∷ decimal number ∷ role-word-of (v .role) ∷ spelled (v .name) ∷ []
 
 -- variables, of which the first has this number
 abbrev pub described-from : ℕ → List Variable → List (List (List ℕ))
 described-from number [] = []
-described-from number (v ∷ vs) = described number v ∷ described-from (number + 1) vs
+described-from number (v ∷ vs) = described (codes "variable") number v ∷ described-from (number + 1) vs
 
 -- how many nodes there are of each form
 abbrev pub no-forms : Forms
@@ -100,8 +107,33 @@ abbrev pub contents-of : Contents → List Node → List (List (List ℕ))
 contents-of c ns =
     counts-of c
     ++ (described-from 1 (listed (c .variables))
-    ++ (forms-of (forms-on no-forms (take (c .nodes) ns))
+    ++ (forms-of (forms-on no-forms ns)
     ++ (counted (codes "weights begin") (c .weights) ∷ [])))
+
+-- the set of variables that the root, the last node, mentions
+abbrev pub root-set : List Shape → Vars
+root-set ss = about ss (length ss - 1)
+
+-- those variables that are in a set, by rising number, where the first in the list has this number
+abbrev pub mentioned-from : Vars → ℕ → List Variable → List (List (List ℕ))
+mentioned-from set number [] = []
+mentioned-from set number (v ∷ vs) =
+    cond (set number)
+    (described (codes "root mentions") number v ∷ mentioned-from set (number + 1) vs)
+    (mentioned-from set (number + 1) vs)
+
+-- what an accepted table is: sound, and what its root mentions
+abbrev pub table-of : Variables → List Node → List ℕ → List (List (List ℕ))
+table-of vs ns cs = (codes "table" ∷ codes "sound" ∷ []) ∷ mentioned-from (root-set (shapes cs ns)) 1 (listed vs)
+
+-- what is printed for an answer of the check
+abbrev pub checked-by : Contents → List Node → List ℕ → Result Mentions Fault → List (List (List ℕ))
+checked-by c ns cs (Ok m) = contents-of c ns ++ table-of (c .variables) ns cs
+checked-by c ns cs (Err f) = refusal f ∷ []
+
+-- what is printed for a file that was read, with the nodes and the child numbers that it gave
+abbrev pub checked : Contents → List Node → List ℕ → List (List (List ℕ))
+checked c ns cs = checked-by c ns cs (check-says (c .variables) ns cs)
 
 -- every name of these variables is ASCII, as the reader sees to
 abbrev pub Plain-names : List Variable → Type 0
@@ -120,11 +152,14 @@ unused = record { form = False; first = 0; count = 0 }
 abbrev pub rooms : Rooms
 rooms = record { nodes = node-room; children = child-room }
 
--- what is printed for an answer of the reader, with the node records that it wrote
-abbrev pub Answered : Result Contents Fault → List Node → List ℕ → Type 0
-Answered (Ok c) written text = text ≡ text-of (contents-of c (overwritten written (replicate node-room unused)))
-Answered (Err f) written text = text ≡ text-of (refusal f ∷ [])
+-- what is printed for an answer of the reader, with the stores as it left them
+abbrev pub read-by : Result Contents text.Fault → List Node → List ℕ → List (List (List ℕ))
+read-by (Ok c) ns cs = checked c (take (c .nodes) ns) (take (c .children) cs)
+read-by (Err f) ns cs = refusal (Text f) ∷ []
 
 -- what is printed for a file
-abbrev pub Reported : List ℕ → List ℕ → Type 0
-Reported file text = Answered (file-says rooms file .answer) (file-says rooms file .nodes) text
+abbrev pub reported : List ℕ → List (List (List ℕ))
+reported file =
+    read-by (file-says rooms file .answer)
+    (overwritten (file-says rooms file .nodes) (replicate node-room unused))
+    (overwritten (file-says rooms file .children) (replicate child-room 0))
