@@ -35,9 +35,6 @@ spelled-name-of f h = filled 24 0 f h
 pub listed-variables-of : (vs : List Variable) → length vs ≤ 64 → listed (variables-of vs) ≡ vs
 listed-variables-of vs h = filled 64 blank vs h
 
-pub count-variables-of : (vs : List Variable) → length vs ≤ 64 → variables-of vs .count ≡ length vs
-count-variables-of vs h = omega arith
-
 -- one more element copied
 pub copied-more : {A : Type 0} (to from : List A) (i : ℕ) (d : A) → i < length to → i < length from → set (take i from ++ drop i to) i (getD from i d) ≡ take (i + 1) from ++ drop (i + 1) to
 copied-more to from i d h l = simp zero-add at (paste-more to 0 from i d (omega arith) l)
