@@ -1,0 +1,17 @@
+pub mod Marking
+pub mod Products
+pub mod Reading
+pub mod Passing
+pub mod Striding
+pub mod Rowing
+pub mod Options
+pub mod Lowest
+pub mod Pairing
+pub mod Roots
+pub mod Made
+pub mod Splits
+pub mod Figures
+pub mod Filters
+pub mod Parts
+pub mod Above
+pub mod Below
