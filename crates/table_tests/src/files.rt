@@ -45,7 +45,7 @@ fn counts(nodes: &str) -> (usize, usize) {
 
 /// The file with variables of these roles (a letter for each) and with these nodes: a space for a
 /// tab, a slash between two lines.
-pub fn file(roles: &str, nodes: &str, heap: Global) -> Result<String, AllocError> {
+pub(crate) fn file(roles: &str, nodes: &str, heap: Global) -> Result<String, AllocError> {
     let variables = roles.len();
     let (count, children) = counts(nodes);
     let lines = variable_lines(roles, heap)?;

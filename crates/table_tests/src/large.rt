@@ -41,7 +41,7 @@ fn rooted(rootless: &str, first: &str, more: usize, heap: Global) -> Result<Stri
 }
 
 /// The largest table: its root is an and of node 4094 and, 517 times, node 0.
-pub fn large(heap: Global) -> Result<String, AllocError> {
+pub(crate) fn large(heap: Global) -> Result<String, AllocError> {
     let rootless = rootless(heap)?;
     rooted(rootless.as_str(), " 4094", 517, heap)
 }

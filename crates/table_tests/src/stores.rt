@@ -28,7 +28,7 @@ pub struct Stores {
 
 impl Stores {
     /// A file's parts: so much of the stores as its counts say.
-    pub fn read(file: &str, heap: Global) -> Result<Stores, Fail> {
+    pub(crate) fn read(file: &str, heap: Global) -> Result<Stores, Fail> {
         let mut nodes = vec![in heap; MARK; 4096]?;
         let mut children = vec![in heap; 903; 12288]?;
         match read_table(
@@ -51,7 +51,7 @@ impl Stores {
 }
 
 /// The file is read, and the check of its parts answers this.
-pub fn check_file(file: &str, due: Refusal, sets: &[u64], heap: Global) -> Result<(), Fail> {
+pub(crate) fn check_file(file: &str, due: Refusal, sets: &[u64], heap: Global) -> Result<(), Fail> {
     let stores = Stores::read(file, heap)?;
     check_answer(
         stores.nodes.as_slice(),
@@ -63,7 +63,7 @@ pub fn check_file(file: &str, due: Refusal, sets: &[u64], heap: Global) -> Resul
 }
 
 /// The check of these parts answers this refusal, or none and these sets of variables.
-pub fn check_answer(
+pub(crate) fn check_answer(
     nodes: &[Node],
     children: &[u16],
     variables: &Variables,

@@ -56,12 +56,17 @@ const WRITTEN: [(usize, usize); 12] = [
 ];
 
 /// The plant's file.
-pub fn plant(heap: Global) -> Result<String, AllocError> {
+pub(crate) fn plant(heap: Global) -> Result<String, AllocError> {
     spoiled(HEADER, 0, "", heap)
 }
 
 /// The plant's file with another header, and with another text in the place of a line.
-pub fn spoiled(header: &str, line: usize, text: &str, heap: Global) -> Result<String, AllocError> {
+pub(crate) fn spoiled(
+    header: &str,
+    line: usize,
+    text: &str,
+    heap: Global,
+) -> Result<String, AllocError> {
     let mut file = String::new(heap);
     let mut at = 0usize;
     for old in LINES {
@@ -81,7 +86,7 @@ pub fn spoiled(header: &str, line: usize, text: &str, heap: Global) -> Result<St
 
 /// A file that is the plant's up to some line, but perhaps for the header's counts, is refused
 /// there, or is accepted whole. The stores hold what the lines before it wrote.
-pub fn check_read(file: &[u8], due: Option<Refusal>, heap: Global) -> Result<(), Fail> {
+pub(crate) fn check_read(file: &[u8], due: Option<Refusal>, heap: Global) -> Result<(), Fail> {
     let line = match due {
         Some((_, place)) => place,
         None => 11,

@@ -43,13 +43,17 @@ fn shown(node: &Node) -> Shown {
 }
 
 impl Stores {
-    pub fn new(node_room: usize, child_room: usize, heap: Global) -> Result<Stores, AllocError> {
+    pub(crate) fn new(
+        node_room: usize,
+        child_room: usize,
+        heap: Global,
+    ) -> Result<Stores, AllocError> {
         let nodes = vec![in heap; NODE_MARK; node_room]?;
         let children = vec![in heap; CHILD_MARK; child_room]?;
         Ok(Stores { nodes, children })
     }
 
-    pub fn read(&mut self, file: &[u8]) -> Result<Contents, Fault> {
+    pub(crate) fn read(&mut self, file: &[u8]) -> Result<Contents, Fault> {
         read_table(
             file,
             self.nodes.as_mut_slice(),
@@ -69,7 +73,7 @@ impl Stores {
     }
 
     /// A file meets this refusal or none, and leaves so many of these nodes and children.
-    pub fn check_read(
+    pub(crate) fn check_read(
         &mut self,
         file: &[u8],
         due: Option<Refusal>,
@@ -81,7 +85,7 @@ impl Stores {
     }
 
     /// The stores hold so many of these nodes and of these children, and behind them the marks.
-    pub fn check(
+    pub(crate) fn check(
         &self,
         (nodes, node_count): (&[Shown], usize),
         (children, child_count): (&[u16], usize),
