@@ -79,10 +79,6 @@ option-known rs zero e = absurd (both-ways (is-option rs 0) (role-none rs) e)
 option-known rs (suc k) e =
     (omega arith, ⊎-elim (λ h. h) (λ past. absurd (both-ways _ (role-at rs k ∙ getD-past rs k false past) e)) (cases-lt k (length rs)))
 
--- each variable is an option or a chance
-pub option-or-chance : (rs : Roles) (v : ℕ) → Known rs v → (is-option rs v ≡ true) ⊎ Among v (chances rs)
-option-or-chance rs v h = elim (cases-bool (is-option rs v)) [ inl e ↦ inl e | inr e ↦ inr (role-listed rs false v h e) ]
-
 -- no number stands in vs twice
 abbrev pub Distinct : List ℕ → Type 0
 Distinct [] = Unit {0}
@@ -98,9 +94,6 @@ from-distinct (true ∷ rs) i true = (later i true rs, from-distinct rs (i + 1) 
 from-distinct (false ∷ rs) i true = from-distinct rs (i + 1) true
 from-distinct (true ∷ rs) i false = from-distinct rs (i + 1) false
 from-distinct (false ∷ rs) i false = (later i false rs, from-distinct rs (i + 1) false)
-
-pub options-distinct : (rs : Roles) → Distinct (options rs)
-options-distinct rs = from-distinct rs 1 true
 
 pub chances-distinct : (rs : Roles) → Distinct (chances rs)
 chances-distinct rs = from-distinct rs 1 false

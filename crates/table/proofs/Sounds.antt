@@ -130,11 +130,3 @@ module _ (rs : Roles) (ss : List Shape) where
 
   pub local-truth : verdict rs ss ≡ sound → Local-truth ss
   local-truth e = ordered-local ss (sound-proper e .ordered)
-
-  -- whether a sound circuit is satisfied depends on the table's variables alone
-  pub satisfied-same : verdict rs ss ≡ sound → (u w : World) → ((v : ℕ) → Known rs v → u v ≡ w v) → satisfied ss u ≡ satisfied ss w
-  satisfied-same e u w alike =
-      let p = sound-proper e in
-      root-last (truth u) false ss
-      ∙ local-truth e (length ss - 1) u w (λ v on. alike v (about-known ss (p .ordered) rs (p .known-variables) (length ss - 1) v on))
-      ∙ sym (root-last (truth w) false ss)
