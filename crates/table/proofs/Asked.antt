@@ -1,10 +1,10 @@
 -- What a checked table says of its nodes and variables. Assumes nothing.
-use mathlib.Core.Path.{_≡_, refl, sym, ap, _∙_}
-use mathlib.Core.Bool.{Bool, true, false}
-use mathlib.Core.List.{List, [], _∷_, _++_, map}
+use mathlib.Core.Path.{_≡_, sym, ap, _∙_}
+use mathlib.Core.Bool.{true, false}
+use mathlib.Core.List.{map}
 use mathlib.Core.Logic.{inl, inr}
 use denote.Ref.{now}
-use Prim.Native.Nat.{ℕ, zero, suc, _+_, _-_, _/_, _^_, _≤_, _<_}
+use Prim.Native.Nat.{ℕ, suc, _-_, _≤_, _<_}
 use native.Mathlib.Omega.{arith}
 use lib.ListN.{length, getD, replicate}
 use Rattle.std.proofs.shelf.Lists.{getD-past, getD-append-left, getD-map, length-map, length-take}
@@ -12,12 +12,12 @@ use Rattle.std.proofs.shelf.Tests.{cases-bool, both-ways}
 use Rattle.text.specs.Format.{listed}
 use Rattle.text.specs.declared.record.Variable.{Variable}
 use Rattle.table.specs.declared.table.Table.{Table}
-use Rattle.table.specs.Circuit.{Shape, Vars, mention, mentions}
-use Rattle.table.specs.Sound.{Roles, none, known, is-option, verdict, sound}
+use Rattle.table.specs.Circuit.{Vars, mention, mentions}
+use Rattle.table.specs.Sound.{none, known, is-option, verdict, sound}
 use Rattle.table.specs.Nodes.{shape, is-option-role}
 use Rattle.table.specs.Sets.{mask, masks}
 use Rattle.table.specs.Masks.{has-bit}
-use Rattle.table.specs.Facts.{about, Known}
+use Rattle.table.specs.Facts.{about}
 use Rattle.table.specs.Whole.{circuit, roles}
 use Rattle.table.proofs.Upward.{upward-length}
 use Rattle.table.proofs.Truths.{about-known}

@@ -10,8 +10,8 @@ use lib.Dec.{eqb}
 use lib.ListN.{length, getD}
 use Rattle.std.specs.shelf.Lists.{All}
 use Rattle.std.proofs.shelf.Lists.{getD-past}
-use Rattle.std.proofs.shelf.Tests.{both-ways, ne-eqb, cases-lt, cases-bool}
-use Rattle.table.specs.Sound.{Roles, is-option, from, options, chances}
+use Rattle.std.proofs.shelf.Tests.{both-ways, ne-eqb, cases-lt}
+use Rattle.table.specs.Sound.{Roles, is-option, from, chances}
 use Rattle.table.specs.Facts.{Among, Known}
 use Rattle.table.proofs.Listed.{all-among}
 

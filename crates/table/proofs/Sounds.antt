@@ -1,5 +1,5 @@
 -- A circuit is found sound if it is proper, and only then. Assumes nothing.
-use mathlib.Core.Path.{_≡_, refl, sym, subst, _∙_}
+use mathlib.Core.Path.{_≡_, refl, subst}
 use mathlib.Core.Bool.{Bool, true, false}
 use mathlib.Core.List.{List, [], _∷_}
 use mathlib.Core.Logic.{inl, inr}
@@ -13,11 +13,10 @@ use Rattle.std.specs.declared.option.Option.the-variants.{Some, None}
 use Rattle.std.proofs.shelf.Tests.{false≢true, cases-bool, cond-true, cond-false}
 use Rattle.std.proofs.shelf.Ways.{decides-and, decides-ltb}
 use Rattle.table.specs.declared.fault.Flaw.{Flaw}
-use Rattle.table.specs.Circuit.{Shape, lit, all, fork, top, bottom, World, every, truth, mentions, satisfied}
+use Rattle.table.specs.Circuit.{Shape, lit, all, fork, top, bottom, every, truth, mentions}
 use Rattle.table.specs.Sound.{Roles, Verdict, sound, chances, up-to, children, unless, flaw-first, flaw-at, verdict-from, verdict}
 use Rattle.table.specs.Facts.{Among, node, about, Ordered, Known, Total, Known-variables, Has-literal, Proper, Deterministic, Local-truth}
 use Rattle.table.proofs.Listed.{decides-same, decides-every}
-use Rattle.table.proofs.Upward.{root-last}
 use Rattle.table.proofs.Truths.{about-known, ordered-local, decisions-exclude}
 use Rattle.table.proofs.Decided.{decides-known, decides-has, Apart, decides-apart, among-known}
 

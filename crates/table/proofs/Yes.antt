@@ -1,5 +1,5 @@
 -- What the check's yes gives. Assumes nothing.
-use mathlib.Core.Path.{_≡_, refl, sym, ap, subst, _∙_}
+use mathlib.Core.Path.{_≡_, refl, sym, ap, _∙_}
 use mathlib.Core.Bool.{Bool, true, false, cond, _&&_}
 use mathlib.Core.List.{List}
 use Prim.Native.Nat.{ℕ}
@@ -15,7 +15,7 @@ use Rattle.table.specs.declared.mentions.Mentions.{Mentions}
 use Rattle.table.specs.Circuit.{Shape}
 use Rattle.table.specs.Sound.{Roles, Verdict, sound, flawed, is-sound, verdict}
 use Rattle.table.specs.Nodes.{shapes, roles-of}
-use Rattle.table.specs.Sets.{padded, mentions-of}
+use Rattle.table.specs.Sets.{padded}
 use Rattle.std.specs.Orderings.{Decides}
 use Rattle.std.specs.Results.{isOk}
 use Rattle.std.proofs.shelf.Tests.{and-parts, and-from, leb-true, le-leb, cond-true}

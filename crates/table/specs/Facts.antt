@@ -9,7 +9,7 @@ use Rattle.text.specs.declared.record.Node.{Node}
 use Rattle.text.specs.declared.record.Variables.{Variables}
 use Rattle.text.specs.Format.{options, listed}
 use Rattle.table.specs.Nodes.{shapes, roles-of}
-use Rattle.table.specs.Circuit.{Shape, lit, all, fork, top, bottom, World, Vars, upward, truth, mentions}
+use Rattle.table.specs.Circuit.{Shape, lit, all, fork, bottom, World, Vars, upward, truth, mentions}
 use Rattle.table.specs.Sound.{Roles, chances, none, children}
 
 -- an element of a list

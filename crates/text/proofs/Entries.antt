@@ -1,6 +1,6 @@
 -- What a node line says, by its fields. Assumes nothing.
 use mathlib.Core.Path.{_≡_, refl, sym, ap, _∙_}
-use mathlib.Core.Bool.{Bool, true, false, cond}
+use mathlib.Core.Bool.{true, false, cond}
 use mathlib.Core.List.{List, [], _∷_, map}
 use Prim.Native.Nat.{ℕ, suc, _+_, _≤_, _<_}
 use native.Mathlib.Omega.{arith}
@@ -8,7 +8,7 @@ use lib.Dec.{eqb}
 use lib.ListN.{length, drop, getD}
 use Rattle.std.specs.declared.option.Option.{Option}
 use Rattle.std.specs.declared.result.Result.the-variants.{Ok, Err}
-use Rattle.std.proofs.shelf.Tests.{cond-true, cond-false, eq-eqb, ne-eqb}
+use Rattle.std.proofs.shelf.Tests.{cond-true, cond-false}
 use Rattle.text.specs.declared.fault.Reason.{Reason}
 use Rattle.text.specs.declared.fault.Reason.the-variants as reason
 use Rattle.text.specs.declared.kind.Kind.the-variants as kind
@@ -16,7 +16,7 @@ use Rattle.text.specs.declared.record.Form.{Form}
 use Rattle.text.specs.declared.record.Form.the-variants.{Literal, And, Fork, True, False}
 use Rattle.text.specs.Lines.{every, onto, fields}
 use Rattle.text.specs.Numerals.{number}
-use Rattle.text.specs.Format.{Said, Entry, then, provided, no-field, one-field, number-field, is-number, number-or-zero, numbers, entry-of, entry-says, literal, literal-of, said-literal, and-says}
+use Rattle.text.specs.Format.{Said, Entry, then, no-field, number-field, is-number, number-or-zero, numbers, entry-of, entry-says, literal, literal-of, said-literal}
 use Rattle.std.specs.declared.result.Result.{Result}
 use Rattle.text.specs.declared.nodes.NodeLine.{NodeLine}
 use Rattle.text.specs.Steps.{Answers, Heard}

@@ -1,5 +1,5 @@
 -- The names of an accepted file are printable. Assumes nothing.
-use mathlib.Core.Path.{_≡_, refl, sym, ap, subst, _∙_}
+use mathlib.Core.Path.{_≡_, refl, ap, subst, _∙_}
 use mathlib.Core.Bool.{Bool, true, false, cond, not, _&&_}
 use mathlib.Core.List.{List, [], _∷_, _++_}
 use Prim.Native.Nat.{ℕ, zero, suc, _+_, _≤_, min}
@@ -21,7 +21,7 @@ use Rattle.text.specs.declared.record.Contents.{Contents}
 use Rattle.text.specs.declared.record.Role.{Role}
 use Rattle.text.specs.declared.record.Variable.{Variable}
 use Rattle.text.specs.Lines.{every, printable, onto, lines, fields}
-use Rattle.text.specs.Format.{Said, Rooms, Sofar, Reading, number-field, role-of, name-of, blank, listed, variables-of, is-named, one-if-option, options, follows-rules, said-variable, header-says, variable-says, entry-says, fitting, is-header, is-variable, section-at, kind-of, by-section, by-fields, line-says, is-complete, accepted, refused, read-on, nothing-yet, file-says, named-printable}
+use Rattle.text.specs.Format.{Said, Rooms, Sofar, Reading, number-field, role-of, name-of, blank, listed, is-named, one-if-option, options, follows-rules, said-variable, header-says, variable-says, entry-says, fitting, is-header, is-variable, section-at, kind-of, by-section, by-fields, line-says, is-complete, accepted, refused, read-on, nothing-yet, file-says, named-printable}
 use Rattle.text.proofs.Limits.{never, same-ok, provided-ok, then-ok}
 use Rattle.text.proofs.Names.{spelled-name-of}
 

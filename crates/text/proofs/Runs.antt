@@ -1,12 +1,12 @@
 -- The reader line by line. Assumes nothing.
-use mathlib.Core.Path.{_≡_, refl, sym, ap, ap₂, subst, _∙_}
+use mathlib.Core.Path.{_≡_, refl, sym, ap, subst, _∙_}
 use mathlib.Core.Bool.{true, false, _&&_}
 use mathlib.Core.List.{List, [], _∷_, _++_}
-use Prim.Native.Nat.{ℕ, suc, _+_, _-_, _≤_, _<_}
+use Prim.Native.Nat.{ℕ, _+_, _-_, _≤_}
 use native.Mathlib.Omega.{arith}
 use lib.Dec.{leb}
 use lib.ListN.{length, take, drop}
-use Rattle.std.proofs.shelf.Lists.{length-take-le, take-append-drop, length-drop, drop-drop, take-rest}
+use Rattle.std.proofs.shelf.Lists.{length-take-le, take-append-drop, drop-drop}
 use Rattle.std.proofs.shelf.Tests.{cond-true, cond-false, and-from, le-leb}
 use Rattle.std.specs.declared.result.Result.{Result}
 use Rattle.std.specs.declared.result.Result.the-variants.{Ok, Err}
@@ -19,10 +19,10 @@ use Rattle.text.specs.declared.kind.Section.{Section}
 use Rattle.text.specs.declared.kind.Section.the-variants as section
 use Rattle.text.specs.declared.record.Node.{Node}
 use Rattle.text.specs.declared.record.Contents.{Contents}
-use Rattle.text.specs.Lines.{every, printable, index-of, lines, fields}
-use Rattle.text.specs.Format.{Said, Rooms, rooms-for, Sofar, Reading, then, provided, header-says, variable-says, entry-says, fitting, with-header, with-variable, with-node, is-header, is-variable, section-at, kind-of, all-read, is-complete, by-section, by-fields, line-says, accepted, refused, read-on, nothing-yet, file-says, overwritten}
+use Rattle.text.specs.Lines.{every, printable, lines, fields}
+use Rattle.text.specs.Format.{Rooms, rooms-for, Sofar, Reading, then, provided, header-says, variable-says, entry-says, fitting, is-header, is-variable, section-at, kind-of, all-read, is-complete, by-section, by-fields, line-says, accepted, refused, read-on, nothing-yet, file-says, overwritten}
 use Rattle.text.specs.Steps.{State, state, sofar, rooms-of, Bounded, Taken, begun}
-use Rattle.text.proofs.Cuts.{first-line, no-line}
+use Rattle.text.proofs.Cuts.{first-line}
 use Rattle.text.proofs.Limits.{same-ok, provided-ok, then-ok, never}
 
 -- A line that is accepted ends at the next line's place.
