@@ -1,5 +1,7 @@
 //! Works out bounds of a plant of full size. With a number of repeats as its argument it says how
 //! long each takes.
+#![tactic(auto)]
+
 mod measure;
 mod plant;
 

@@ -1,4 +1,6 @@
 //! The passes: a value for every node, for a selection or for holds.
+#![tactic(auto)]
+
 pub mod bounds;
 pub mod counting;
 pub mod figure;

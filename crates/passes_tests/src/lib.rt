@@ -1,4 +1,6 @@
 //! The tests of the passes.
+#![tactic(auto)]
+
 #[cfg(test)]
 mod asking;
 #[cfg(test)]

@@ -1,3 +1,5 @@
 //! Small plants for the tests of several layers.
+#![tactic(auto)]
+
 pub mod files;
 pub mod stores;

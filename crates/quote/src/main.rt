@@ -1,4 +1,6 @@
 //! Reads a plant's table file from standard input and prints what it says.
+#![tactic(auto)]
+
 mod report;
 
 use std::io;

@@ -1,4 +1,6 @@
 //! What a program prints: the bound and the best selection, or the refusal.
+#![tactic(auto)]
+
 pub mod answer;
 pub mod plant;
 pub mod refusal;

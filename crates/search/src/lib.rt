@@ -1,4 +1,6 @@
 //! Branching orders, select, and the calls of a study.
+#![tactic(auto)]
+
 pub mod asking;
 pub mod call;
 pub mod cases;

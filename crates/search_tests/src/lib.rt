@@ -1,4 +1,6 @@
 //! The tests of the study.
+#![tactic(auto)]
+
 #[cfg(test)]
 mod calls;
 #[cfg(test)]

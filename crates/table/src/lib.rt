@@ -1,4 +1,6 @@
 //! The checked table: a circuit that is what it should be, or the first reason why it is not.
+#![tactic(auto)]
+
 pub mod build;
 pub mod check;
 pub mod fault;

@@ -1,4 +1,6 @@
 //! The tests of the table's check.
+#![tactic(auto)]
+
 #[cfg(test)]
 mod asked;
 #[cfg(test)]

@@ -1,4 +1,6 @@
 //! The table file: bytes, lines, fields, numbers, and the reader that fills the caller's stores.
+#![tactic(auto)]
+
 pub mod fault;
 pub mod fields;
 pub mod kind;

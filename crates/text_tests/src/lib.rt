@@ -1,4 +1,6 @@
 //! The tests of the table file's reader and of the kinds of figure.
+#![tactic(auto)]
+
 #[cfg(test)]
 mod accepted;
 #[cfg(test)]

@@ -1,5 +1,7 @@
 //! Follows an estimator's working day on a plant, which is read from standard input, and says step
 //! by step what was done.
+#![tactic(auto)]
+
 mod story;
 mod words;
 
