@@ -6,4 +6,4 @@ use Rattle.text.proofs.fields.field.Goals as goal
 pub returns : goal.returns
 returns c =
     let fs = fields c.args.line.now in
-    c.first-field.ensures ∙ ap (λ gs. get_or gs 0 []) c.from-field.ensures ∙ get_or-drop c.args.k fs 0 [] ∙ ap (λ n. get_or fs n []) (add-zero c.args.k)
+    c.first_field.ensures ∙ ap (λ gs. get_or gs 0 []) c.from_field.ensures ∙ get_or-drop c.args.k fs 0 [] ∙ ap (λ n. get_or fs n []) (add-zero c.args.k)

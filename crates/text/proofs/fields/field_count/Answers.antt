@@ -10,8 +10,8 @@ loop-b-preserved c =
     let xs = c.args.line.now in
     let i = c.loop-b.b-index in
     elim c.if-b-eq-TAB.branch [
-      | then-b-eq-TAB w ↦ (omega (arith, w.count_is, c.loop-b.invariant.0, count_tab xs i c.loop-b-test.true w.if-b-eq-TAB.true), omega (arith, w.count_is, c.loop-b.invariant.1))
-      | else-b-eq-TAB w ↦ (omega (arith, w.count_is, c.loop-b.invariant.0, count_other xs i c.loop-b-test.true w.if-b-eq-TAB.false), omega (arith, w.count_is, c.loop-b.invariant.1))
+      | then-b-eq-TAB w ↦ (omega (arith, w.count-is, c.loop-b.invariant.0, count_tab xs i c.loop-b-test.true w.if-b-eq-TAB.true), omega (arith, w.count-is, c.loop-b.invariant.1))
+      | else-b-eq-TAB w ↦ (omega (arith, w.count-is, c.loop-b.invariant.0, count_other xs i c.loop-b-test.true w.if-b-eq-TAB.false), omega (arith, w.count-is, c.loop-b.invariant.1))
     ]
 
 pub returns : goal.returns

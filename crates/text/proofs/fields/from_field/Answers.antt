@@ -8,11 +8,11 @@ use Rattle.text.proofs.fields.from_field.Goals.{After-find}
 next : (c : After-find) → Begins c.args.line.now (c.loop.counter + 1) (c.loop.at + (c.find.result + 1))
 next c = field_on c.args.line.now c.loop.at c.loop.counter c.find.result c.loop.invariant c.find.ensures.value (omega (arith, c.requires, c.loop-test.true))
 
-pub overflow-add-at : goal.overflow-add-at
-overflow-add-at c = omega (arith, (next c).0, c.well-formed)
+pub overflow_add-at : goal.overflow_add-at
+overflow_add-at c = omega (arith, (next c).0, c.well_formed)
 
-pub overflow-add-at-in-loop : goal.overflow-add-at-in-loop
-overflow-add-at-in-loop c = omega (arith, (next c).0, c.well-formed)
+pub overflow_add-at-in-loop : goal.overflow_add-at-in-loop
+overflow_add-at-in-loop c = omega (arith, (next c).0, c.well_formed)
 
 pub loop-preserved : goal.loop-preserved
 loop-preserved c = next c

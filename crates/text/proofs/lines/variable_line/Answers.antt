@@ -8,28 +8,28 @@ use Rattle.text.proofs.Says.{variable_short, variable_four, options_within}
 use Rattle.text.proofs.lines.variable_line.Goals as goal
 use Rattle.text.proofs.lines.variable_line.Goals.{in-Option, in-Chance, After-field-name, Joined-role-2}
 
-pub returns-then-field-count-ne4 : goal.returns-then-field-count-ne4
-returns-then-field-count-ne4 c = sym (variable_short _ (fields c.args.line.now) (λ e. c.if-field-count-ne4.true (c.field-count.ensures ∙ e)))
+pub returns-then-field_count-ne4 : goal.returns-then-field_count-ne4
+returns-then-field_count-ne4 c = sym (variable_short _ (fields c.args.line.now) (λ e. c.if-field_count-ne4.true (c.field_count.ensures ∙ e)))
 
-pub returns-in-err-number : goal.returns-in-err-number
-returns-in-err-number c =
-    let p = err_from_is_err_and c.from-residual.result c.from-residual.ensures.1 in
-    rw (p.1, p.2) (variable_four _ (fields c.args.line.now) (Err _) _ _ (omega arith) c.in-err-number.ensures refl refl)
+pub returns-in_err-number : goal.returns-in_err-number
+returns-in_err-number c =
+    let p = err_from_is_err_and c.from_residual.result c.from_residual.ensures.1 in
+    rw (p.1, p.2) (variable_four _ (fields c.args.line.now) (Err _) _ _ (omega arith) c.in_err-number.ensures refl refl)
 
-pub returns-in-default : goal.returns-in-default
-returns-in-default c =
-    variable_four _ (fields c.args.line.now) (Ok _) None _ (omega arith) c.in-ok-number.ensures
-    (c.in-default.ensures ∙ ap role_of c.field.ensures) refl
+pub returns-in_default : goal.returns-in_default
+returns-in_default c =
+    variable_four _ (fields c.args.line.now) (Ok _) None _ (omega arith) c.in_ok-number.ensures
+    (c.in_default.ensures ∙ ap role_of c.field.ensures) refl
 
-pub overflow-add-options : goal.overflow-add-options
-overflow-add-options c =
+pub overflow_add-options : goal.overflow_add-options
+overflow_add-options c =
     let l : length (listed c.args.before.now) ≤ 64 = simp length-take (omega arith) in
     omega (arith, options_within (listed c.args.before.now))
 
 -- with a number and a role, the rules decide
-ruled : (c : After-field-name) → said_variable (listed c.args.before.now) c.in-ok-number.number (Some c.in-Some.role) c.field-name.result.now ≡ variable_says (listed c.args.before.now) (drop 1 (fields c.args.line.now))
+ruled : (c : After-field-name) → said_variable (listed c.args.before.now) c.in_ok-number.number (Some c.in-Some.role) c.field-name.result.now ≡ variable_says (listed c.args.before.now) (drop 1 (fields c.args.line.now))
 ruled c =
-    variable_four _ (fields c.args.line.now) (Ok _) (Some _) _ (omega arith) c.in-ok-number.ensures
+    variable_four _ (fields c.args.line.now) (Ok _) (Some _) _ (omega arith) c.in_ok-number.ensures
     (c.in-Some.ensures ∙ ap role_of c.field.ensures) c.field-name.ensures
 
 -- the options with this variable
@@ -41,13 +41,13 @@ together c = elim c.match-role-2.branch [
 
 pub returns-then-number-due : goal.returns-then-number-due
 returns-then-number-due c =
-    let n = ap length c.as-slice.ensures in
+    let n = ap length c.as_slice.ensures in
     let o = together (goal.at.returns-then-number-due c).Joined-role-2 in
     grind (arith, nat_tests) ∙ ruled (goal.at.returns-then-number-due c).After-field-name
 
 pub returns : goal.returns
 returns c =
-    let n = ap length c.as-slice.ensures in
+    let n = ap length c.as_slice.ensures in
     let o = together (goal.at.returns c).Joined-role-2 in
-    let d = c.if-is-named.ensures in
+    let d = c.if-is_named.ensures in
     grind (arith, nat_tests) ∙ ruled (goal.at.returns c).After-field-name

@@ -4,17 +4,17 @@ use Rattle.text.specs.Format.{is_number}
 use Rattle.text.proofs.Entries.{and_short, and_wrong, and_right}
 use Rattle.text.proofs.nodes.and_line.Goals as goal
 
-pub returns-then-field-count-lt2 : goal.returns-then-field-count-lt2
-returns-then-field-count-lt2 c = and_short (fields c.args.line.now) (omega arith)
+pub returns-then-field_count-lt2 : goal.returns-then-field_count-lt2
+returns-then-field_count-lt2 c = and_short (fields c.args.line.now) (omega arith)
 
-pub returns-then-not-all-numbers : goal.returns-then-not-all-numbers
-returns-then-not-all-numbers c =
+pub returns-then-not-all_numbers : goal.returns-then-not-all_numbers
+returns-then-not-all_numbers c =
     let fs = fields c.args.line.now in
     let long : 2 ≤ length fs = omega arith in
-    and_wrong fs long (sym (c.if-not-all-numbers.ensures ∙ ap (every is_number) c.from-field.ensures))
+    and_wrong fs long (sym (c.if-not-all_numbers.ensures ∙ ap (every is_number) c.from_field.ensures))
 
 pub returns : goal.returns
 returns c =
     let fs = fields c.args.line.now in
     let long : 2 ≤ length fs = omega arith in
-    (and_right fs long (sym (c.if-not-all-numbers.ensures ∙ ap (every is_number) c.from-field.ensures)), omega arith)
+    (and_right fs long (sym (c.if-not-all_numbers.ensures ∙ ap (every is_number) c.from_field.ensures)), omega arith)

@@ -16,9 +16,9 @@ returns-in-Header c =
 pub returns-in-True : goal.returns-in-True
 returns-in-True c =
     let fs = fields c.args.line.now in
-    subst (λ k. Heard k fs c.leaf-line.result) (sym c.in-True.is) (heard_true fs c.leaf-line.result c.leaf-line.ensures)
+    subst (λ k. Heard k fs c.leaf_line.result) (sym c.in-True.is) (heard_true fs c.leaf_line.result c.leaf_line.ensures)
 
 pub returns-in-False : goal.returns-in-False
 returns-in-False c =
     let fs = fields c.args.line.now in
-    subst (λ k. Heard k fs c.leaf-line-in-False.result) (sym c.in-False.is) (heard_false fs c.leaf-line-in-False.result c.leaf-line-in-False.ensures)
+    subst (λ k. Heard k fs c.leaf_line-in-False.result) (sym c.in-False.is) (heard_false fs c.leaf_line-in-False.result c.leaf_line-in-False.ensures)

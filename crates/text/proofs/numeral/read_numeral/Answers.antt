@@ -2,9 +2,9 @@ use Rattle.std.proofs.Common.{rules}
 use Rattle.text.specs.Numerals.{numeral}
 use Rattle.text.proofs.numeral.read_numeral.Goals as goal
 
-pub returns-then-is-empty : goal.returns-then-is-empty
+pub returns-then-is_empty : goal.returns-then-is_empty
 unfolding numeral
-returns-then-is-empty c = search rules
+returns-then-is_empty c = search rules
 
 pub returns-then-field-gt1 : goal.returns-then-field-gt1
 unfolding numeral

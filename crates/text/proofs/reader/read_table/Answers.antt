@@ -29,13 +29,13 @@ returns-then-end-file c =
     record { answer = e.answer_is; nodes = e.nodes_are; children = e.children_are; names = tt }
 
 -- a line was taken
-next : (c : In-Ok) → Going c.args.file.now c.args.nodes.now c.args.children.now (state c.take-line.new.self c.take-line.new.nodes c.take-line.new.children) × (c.loop-line.progress.place < c.take-line.new.self.place)
+next : (c : In-Ok) → Going c.args.file.now c.args.nodes.now c.args.children.now (state c.take_line.new.self c.take_line.new.nodes c.take_line.new.children) × (c.loop-line.progress.place < c.take_line.new.self.place)
 next c =
     let file = c.args.file.now in
     let ns = c.args.nodes.now in
     let cs = c.args.children.now in
     let s = state c.loop-line.progress c.loop-line.nodes c.loop-line.children in
-    let t = state c.take-line.new.self c.take-line.new.nodes c.take-line.new.children in
+    let t = state c.take_line.new.self c.take_line.new.nodes c.take_line.new.children in
     let g = c.loop-line.invariant in
     let at = c.loop-line.progress.place in
     let r = c.find.result in
@@ -45,7 +45,7 @@ next c =
     let line = take (at + r - at) (drop at file) in
     let taken = subst (λ rooms. Taken s t (line_says rooms (sofar s) line)) (rooms_same file ns cs s g) c.in-Ok.ensures in
     let place = line_place _ (sofar s) line (sofar t) taken.says in
-    (goes_on file ns cs s g due t line (lines_left file at r g.within is more) (omega (arith, line_size file at r g.within is more)) c.take-line.auto.nodes c.take-line.auto.children taken, omega (arith, place))
+    (goes_on file ns cs s g due t line (lines_left file at r g.within is more) (omega (arith, line_size file at r g.within is more)) c.take_line.auto.nodes c.take_line.auto.children taken, omega (arith, place))
 
 pub loop-line-smaller : goal.loop-line-smaller
 loop-line-smaller c = omega (arith, (next c).1, (next c).0.within)

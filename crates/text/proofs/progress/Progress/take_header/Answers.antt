@@ -8,8 +8,8 @@ use Rattle.text.proofs.progress.Progress.take_header.Goals as goal
 pub returns : goal.returns
 returns c =
     let s = state c.args.self.now c.args.nodes.now c.args.children.now in
-    let says = sym c.header-line.ensures ∙ c.in-ok-self.was in
-    let limits = header_limits (rooms_of s) (drop 1 (fields c.args.line.now)) c.in-ok-self.field-0 says in
+    let says = sym c.header_line.ensures ∙ c.in_ok-self.was in
+    let limits = header_limits (rooms_of s) (drop 1 (fields c.args.line.now)) c.in_ok-self.field-0 says in
     let old = c.requires.bounded in
     let empty = old.start c.requires.first in
     record {

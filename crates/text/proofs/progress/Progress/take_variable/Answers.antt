@@ -9,9 +9,9 @@ pub returns : goal.returns
 returns c =
     let s = state c.args.self.now c.args.nodes.now c.args.children.now in
     let size = length c.args.line.now in
-    let says = sym c.variable-line.ensures ∙ c.in-ok-variable.was in
+    let says = sym c.variable_line.ensures ∙ c.in_ok-variable.was in
     let old = c.requires.bounded in
-    let v = c.in-ok-variable.variable in
+    let v = c.in_ok-variable.variable in
     let before = listed c.args.self.now.variables in
     let after = c.push.new.self in
     let is : after ≡ variables_of (before ++ v ∷ []) = c.push.ensures before old.variables_are in

@@ -13,17 +13,17 @@ turn all name bytes i v b l x s e =
     ∙ ap (λ y. bytes_eq (spelled y.name) name || rest) x
     ∙ sym (at_drop_more (is_named name) all i v l)
 
-pub returns-then-same-bytes : goal.returns-then-same-bytes
-returns-then-same-bytes c =
-    turn _ _ _ _ _ _ c.loop-v-test.true c.v-item.is c.as-bytes.ensures c.if-same-bytes.ensures
-    ∙ c.loop-v.invariant ∙ ap (is_named c.args.name.now) c.as-slice-all.ensures
+pub returns-then-same_bytes : goal.returns-then-same_bytes
+returns-then-same_bytes c =
+    turn _ _ _ _ _ _ c.loop-v-test.true c.v-item.is c.as_bytes.ensures c.if-same_bytes.ensures
+    ∙ c.loop-v.invariant ∙ ap (is_named c.args.name.now) c.as_slice-all.ensures
 
 pub loop-v-preserved : goal.loop-v-preserved
 loop-v-preserved c =
-    turn _ _ _ _ _ _ c.loop-v-test.true c.v-item.is c.as-bytes.ensures c.if-same-bytes.ensures
+    turn _ _ _ _ _ _ c.loop-v-test.true c.v-item.is c.as_bytes.ensures c.if-same_bytes.ensures
     ∙ c.loop-v.invariant
 
 pub returns : goal.returns
 returns c =
-    sym (at_drop_all (is_named c.args.name.now) c.as-slice-all.result.now c.loop-v.v-index c.loop-v-test.false)
-    ∙ c.loop-v.invariant ∙ ap (is_named c.args.name.now) c.as-slice-all.ensures
+    sym (at_drop_all (is_named c.args.name.now) c.as_slice-all.result.now c.loop-v.v-index c.loop-v-test.false)
+    ∙ c.loop-v.invariant ∙ ap (is_named c.args.name.now) c.as_slice-all.ensures
