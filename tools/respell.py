@@ -2,7 +2,7 @@
 """Bring the repository's own antt names to snake case, and its facts to camel case.
 
 Run once at the top of a checkout, after the kit's porting script and before any edit by hand. A name is one that
-stands in a signature or a record field in specs/ or proofs/ and has a dash. Goals keep the names that the check
+stands in a signature, as a record field, or behind `as` in an import, and has a dash. Goals keep the names that the check
 gives them. Comments keep their words, but for names between backquotes.
 """
 import collections
@@ -10,7 +10,8 @@ import pathlib
 import re
 import sys
 
-SIGNATURE = re.compile(r"^\s*(?:(?:abbrev|unfoldable|pub)\s+)*([^\s(){}\[\].,;:]+)\s+:\s+(?!(?:goal|need)\.)")
+SIGNATURE = re.compile(r"^\s*(?:(?:abbrev|unfoldable|pub|record|data)\s+)*([^\s(){}\[\].,;:]+)\s+:\s+(?!(?:goal|need)\.)")
+BROUGHT_IN_AS = re.compile(r"\bas ([^\s(){}\[\].,;:]+)")
 TOKEN = re.compile(r"[^\s(){}\[\].,;:`\"]+")
 ROOT = pathlib.Path(".")
 
@@ -42,6 +43,12 @@ def own_names():
             match = SIGNATURE.match(line)
             if match and "-" in match.group(1) and not line.lstrip().startswith("--"):
                 names[match.group(1)] = respelled(match.group(1))
+    for path in antt_files() + sorted(ROOT.glob("crates/*/src/**/*.rt")):
+        for line in path.read_text().splitlines():
+            if line.lstrip().startswith(("use ", "ghost use ")):
+                for name in BROUGHT_IN_AS.findall(line):
+                    if "-" in name:
+                        names[name] = respelled(name)
     return names
 
 

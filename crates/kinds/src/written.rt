@@ -52,7 +52,7 @@ impl Written for Peak {
     ghost exact = { peak_exact };
 
     fn read(field: &[u8]) -> Option<Peak> {
-        if field == b"-" {
+        if field == b"-".as_slice() {
             return Some(Peak::Impossible);
         }
         let load = read_load(field)?;
@@ -83,7 +83,7 @@ fn read_load(field: &[u8]) -> Option<Load>
 /// Writes a figure and reads it back.
 pub fn written_and_read<W: Written>(figure: W, heap: Global) -> Result<Option<W>, AllocError>
     ensures back { IfOk result (λ o. o ≡ Some figure) }
-    ensures exact { (s : List ℕ) → reading s ≡ Some figure → s ≡ text figure }
+    ensures exact { (s : List ℕ) → W.reading s ≡ Some figure → s ≡ W.text figure }
 {
     let text = figure.write(heap)?;
     Ok(W::read(text.as_bytes()))

@@ -5,7 +5,7 @@ use Rattle.std.proofs.lemmas.Bool.{and_parts, leb-true}
 use Rattle.table.specs.declared.table.Table.{Table}
 use Rattle.table.specs.Circuit.{root}
 use Rattle.kinds.specs.Semiring.{Semiring}
-use Rattle.text.specs.Format.{one_if_option, listed, options as count-options}
+use Rattle.text.specs.Format.{one_if_option, listed, options as count_options}
 use Rattle.text.specs.declared.record.Role.{Role}
 use Rattle.text.specs.declared.record.Role.TheVariants as role
 use Rattle.text.specs.declared.record.Variable.{Variable}
@@ -34,11 +34,11 @@ one_option : (r : Role) (i : ℕ) (rs : Roles) → length (from i true (is_optio
 one_option role.Option i rs = omega arith
 one_option role.Chance i rs = omega arith
 
-options_from : (vs : List Variable) (i : ℕ) → length (from i true (map (λ v. is_option_role v.role) vs)) ≡ count-options vs
+options_from : (vs : List Variable) (i : ℕ) → length (from i true (map (λ v. is_option_role v.role) vs)) ≡ count_options vs
 options_from [] i = refl
 options_from (v ∷ vs) i = one_option v.role i (map (λ u. is_option_role u.role) vs) ∙ ap (λ n. one_if_option v.role + n) (options_from vs (i + 1))
 
-pub options_many : (t : Table) → length (options (roles t)) ≡ count-options (listed t.variables)
+pub options_many : (t : Table) → length (options (roles t)) ≡ count_options (listed t.variables)
 options_many t = options_from (listed t.variables) 1
 
 -- the root's part, in a work table of parts

@@ -6,7 +6,7 @@ ghost use Rattle.table.specs.Sound.{options, chances};
 ghost use Rattle.table.specs.Whole.{circuit, roles};
 ghost use Rattle.passes.specs.Bounding.{PlainWhereHeld};
 ghost use Rattle.passes.specs.Holding.{Keeps, Complete, selected};
-ghost use Rattle.passes.specs.Passes.{plains, plain_bound as plain-bound-of, pairs, bound, work as laid_out};
+ghost use Rattle.passes.specs.Passes.{plains, plain_bound as plain_bound_of, pairs, bound, work as laid_out};
 
 use crate::figure::last_of;
 use crate::holds::Holds;
@@ -20,8 +20,8 @@ use table::table::Table;
 pub fn plain_bound<K: Figure>(table: &Table, sheet: &[K], holds: &Holds, work: &mut [K]) -> K
     requires room { length (circuit table.now) ≤ length work.old }
     requires sheet { 2 * length (roles table.now) ≤ length sheet.now }
-    ensures answer { result ≡ plain-bound-of ring (roles table.now) sheet.now (circuit table.now) holds.now.entries }
-    ensures work { work.new ≡ plains ring (roles table.now) sheet.now (circuit table.now) holds.now.entries ++ drop (length (circuit table.now)) work.old }
+    ensures answer { result ≡ plain_bound_of K.ring (roles table.now) sheet.now (circuit table.now) holds.now.entries }
+    ensures work { work.new ≡ plains K.ring (roles table.now) sheet.now (circuit table.now) holds.now.entries ++ drop (length (circuit table.now)) work.old }
 {
     plain_pass(table, sheet, holds, work);
     last_of(work, table.nodes.len())
@@ -31,12 +31,12 @@ pub fn plain_bound<K: Figure>(table: &Table, sheet: &[K], holds: &Holds, work: &
 pub fn pair_bound<K: Figure>(table: &Table, sheet: &[K], holds: &Holds, work: &mut [K]) -> K
     requires room { length (circuit table.now) * (2 * length (options (roles table.now)) + 1) ≤ length work.old }
     requires sheet { 2 * length (roles table.now) ≤ length sheet.now }
-    ensures answer { result ≡ bound ring (roles table.now) sheet.now (circuit table.now) holds.now.entries }
-    ensures covers { (w : World) → Keeps (roles table.now) holds.now.entries w → ring.upto (figure ring (circuit table.now) (chances (roles table.now)) sheet.now w) result ≡ true }
-    ensures tight { ring.upto result (plain-bound-of ring (roles table.now) sheet.now (circuit table.now) holds.now.entries) ≡ true }
-    ensures meets { Complete (roles table.now) holds.now.entries → ring.upto result (figure ring (circuit table.now) (chances (roles table.now)) sheet.now (selected holds.now.entries)) ≡ true }
-    ensures held { PlainWhereHeld ring (roles table.now) (circuit table.now) sheet.now }
-    ensures work { work.new ≡ laid_out ring (roles table.now) sheet.now (pairs ring (roles table.now) sheet.now (circuit table.now) holds.now.entries) ++ drop (length (circuit table.now) * (2 * length (options (roles table.now)) + 1)) work.old }
+    ensures answer { result ≡ bound K.ring (roles table.now) sheet.now (circuit table.now) holds.now.entries }
+    ensures covers { (w : World) → Keeps (roles table.now) holds.now.entries w → K.ring.upto (figure K.ring (circuit table.now) (chances (roles table.now)) sheet.now w) result ≡ true }
+    ensures tight { K.ring.upto result (plain_bound_of K.ring (roles table.now) sheet.now (circuit table.now) holds.now.entries) ≡ true }
+    ensures meets { Complete (roles table.now) holds.now.entries → K.ring.upto result (figure K.ring (circuit table.now) (chances (roles table.now)) sheet.now (selected holds.now.entries)) ≡ true }
+    ensures held { PlainWhereHeld K.ring (roles table.now) (circuit table.now) sheet.now }
+    ensures work { work.new ≡ laid_out K.ring (roles table.now) sheet.now (pairs K.ring (roles table.now) sheet.now (circuit table.now) holds.now.entries) ++ drop (length (circuit table.now) * (2 * length (options (roles table.now)) + 1)) work.old }
 {
     pair_pass(table, sheet, holds, work);
     let stride = 2 * table.variables.options() + 1;

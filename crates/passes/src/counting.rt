@@ -19,7 +19,7 @@ use text::record::{Form, Node};
 fn literal_count<K: Figure>(table: &Table, sheet: &[K], holds: &Holds, variable: u16, on: bool) -> K
     requires known { known (length (roles table.now)) variable ≡ true }
     requires sheet { 2 * length (roles table.now) ≤ length sheet.now }
-    ensures { result ≡ count ring (roles table.now) sheet.now (selected holds.now.entries) [] (lit variable on) }
+    ensures { result ≡ count K.ring (roles table.now) sheet.now (selected holds.now.entries) [] (lit variable on) }
 {
     if table.has_option(variable) {
         if holds.is_on(variable) == on {
@@ -37,7 +37,7 @@ fn node_count<K: Figure>(table: &Table, sheet: &[K], holds: &Holds, done: &[K], 
     requires ranged { ranged table.now.children.now node ≡ true }
     requires readable { readable (length (roles table.now)) (length done.now) 1 (shape table.now.children.now node) ≡ true }
     requires sheet { 2 * length (roles table.now) ≤ length sheet.now }
-    ensures { result ≡ count_in ring (roles table.now) sheet.now (selected holds.now.entries) 1 done.now (shape table.now.children.now node) }
+    ensures { result ≡ count_in K.ring (roles table.now) sheet.now (selected holds.now.entries) 1 done.now (shape table.now.children.now node) }
 {
     let first = node.first as usize;
     match node.form {
@@ -57,7 +57,7 @@ fn node_count<K: Figure>(table: &Table, sheet: &[K], holds: &Holds, done: &[K], 
 pub fn count_pass<K: Figure>(table: &Table, sheet: &[K], holds: &Holds, work: &mut [K])
     requires room { length (circuit table.now) ≤ length work.old }
     requires sheet { 2 * length (roles table.now) ≤ length sheet.now }
-    ensures { work.new ≡ counts ring (roles table.now) sheet.now (circuit table.now) (selected holds.now.entries) ++ drop (length (circuit table.now)) work.old }
+    ensures { work.new ≡ counts K.ring (roles table.now) sheet.now (circuit table.now) (selected holds.now.entries) ++ drop (length (circuit table.now)) work.old }
 {
     for i in 0..table.nodes.len() {
         let value = node_count(table, sheet, holds, &work[0..i], table.nodes[i]);

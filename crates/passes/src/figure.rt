@@ -16,8 +16,8 @@ use table::table::Table;
 pub fn count_figure<K: Figure>(table: &Table, sheet: &[K], holds: &Holds, work: &mut [K]) -> K
     requires room { length (circuit table.now) ≤ length work.old }
     requires sheet { 2 * length (roles table.now) ≤ length sheet.now }
-    ensures answer { result ≡ figure_of ring (circuit table.now) (chances (roles table.now)) sheet.now (selected holds.now.entries) }
-    ensures work { work.new ≡ counts ring (roles table.now) sheet.now (circuit table.now) (selected holds.now.entries) ++ drop (length (circuit table.now)) work.old }
+    ensures answer { result ≡ figure_of K.ring (circuit table.now) (chances (roles table.now)) sheet.now (selected holds.now.entries) }
+    ensures work { work.new ≡ counts K.ring (roles table.now) sheet.now (circuit table.now) (selected holds.now.entries) ++ drop (length (circuit table.now)) work.old }
 {
     count_pass(table, sheet, holds, work);
     last_of(work, table.nodes.len())
@@ -26,7 +26,7 @@ pub fn count_figure<K: Figure>(table: &Table, sheet: &[K], holds: &Holds, work: 
 /// The last of the first `count` figures.
 pub(crate) fn last_of<K: Figure>(figures: &[K], count: usize) -> K
     requires { (0 < count) × (count ≤ length figures.now) }
-    ensures { result ≡ slice_index_or figures.now (count - 1) ring.zero }
+    ensures { result ≡ slice_index_or figures.now (count - 1) K.ring.zero }
 {
     figures[count - 1]
 }

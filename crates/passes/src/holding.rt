@@ -1,6 +1,6 @@
 //! Holding and releasing options.
 ghost use Rattle.std.specs.Prelude.{◌≡◌, ◌<◌, replicate};
-ghost use Rattle.passes.specs.Holding.{entry as entry_of, is_free, denies as denies-side, selected};
+ghost use Rattle.passes.specs.Holding.{entry as entry_of, is_free, denies as denies_side, selected};
 ghost use Rattle.passes.specs.Marks.{entry_at, with_entry, held};
 
 use crate::holds::{Entry, Holds};
@@ -90,7 +90,7 @@ impl Holds {
     /// Whether a hold contradicts a variable's on (or off) literal.
     pub(crate) fn denies(&self, variable: u16, on: bool) -> bool
         requires { 0 < variable }
-        ensures { result ≡ denies-side (entry_of self.now.entries variable) on }
+        ensures { result ≡ denies_side (entry_of self.now.entries variable) on }
     {
         match self.entry(variable) {
             Entry::Free => false,

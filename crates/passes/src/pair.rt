@@ -30,7 +30,7 @@ fn under<K: Figure>(
 ) -> K
     requires place { place < stride }
     requires inside { inside (length done.now) stride node ≡ true }
-    ensures { result ≡ under_in ring (mentions (circuit table.now)) stride done.now variable place node }
+    ensures { result ≡ under_in K.ring (mentions (circuit table.now)) stride done.now variable place node }
 {
     let value = value_of(done, stride, node);
     if table.does_mention(node as usize, variable) {
@@ -51,7 +51,7 @@ fn product_under<K: Figure>(
 ) -> K
     requires place { place < stride }
     requires inside { every (inside (length done.now) stride) children.now ≡ true }
-    ensures { result ≡ product_under ring (mentions (circuit table.now)) stride done.now variable place children.now }
+    ensures { result ≡ product_under K.ring (mentions (circuit table.now)) stride done.now variable place children.now }
 {
     let mut all = K::one();
     for c in children {
@@ -73,7 +73,7 @@ fn side<K: Figure>(
     requires place { place < stride }
     requires ranged { ranged table.now.children.now node ≡ true }
     requires readable { readable (length (roles table.now)) (length done.now) stride (shape table.now.children.now node) ≡ true }
-    ensures { result ≡ side_in ring (mentions (circuit table.now)) stride done.now (roles table.now) (shape table.now.children.now node) on variable place }
+    ensures { result ≡ side_in K.ring (mentions (circuit table.now)) stride done.now (roles table.now) (shape table.now.children.now node) on variable place }
 {
     let first = node.first as usize;
     match node.form {
@@ -145,7 +145,7 @@ fn side_at<K: Figure>(
     requires variable { 0 < variable }
     requires node { node < length table.now.nodes.now }
     requires done { length done.now ≡ node * stride }
-    ensures { result ≡ side_or_zero ring (mentions (circuit table.now)) stride done.now (roles table.now) holds.now.entries (circuit table.now) node on variable place }
+    ensures { result ≡ side_or_zero K.ring (mentions (circuit table.now)) stride done.now (roles table.now) holds.now.entries (circuit table.now) node on variable place }
 {
     if is_open(table, holds, node, variable) {
         side(table, done, stride, variable, on, place, table.nodes[node])
@@ -156,7 +156,7 @@ fn side_at<K: Figure>(
 
 /// The least so far, with one more option.
 fn lowered<K: Figure>(best: Option<K>, taken: bool, on: K, off: K) -> Option<K>
-    ensures { result ≡ lowered ring best taken on off }
+    ensures { result ≡ lowered K.ring best taken on off }
 {
     if !taken {
         return best;
@@ -181,7 +181,7 @@ fn write_sides<K: Figure>(
     requires stride { stride ≡ 2 * length options.now + 1 }
     requires node { node < length table.now.nodes.now }
     requires room { node * stride + stride ≤ length work.old }
-    ensures { work.new ≡ over work.old (node * stride + 1) (row_in ring (roles table.now) holds.now.entries (circuit table.now) stride (take (node * stride) work.old) node options.now) }
+    ensures { work.new ≡ over work.old (node * stride + 1) (row_in K.ring (roles table.now) holds.now.entries (circuit table.now) stride (take (node * stride) work.old) node options.now) }
 {
     let base = node * stride;
     for j in 0..options.len() {
@@ -224,7 +224,7 @@ fn least_side<K: Figure>(
 ) -> Option<K>
     requires listed { options.now ≡ options_of (roles table.now) }
     requires row { length row.now ≡ 2 * length options.now }
-    ensures { result ≡ lowest ring (open_at holds.now.entries (about (circuit table.now) node)) row.now None 0 options.now }
+    ensures { result ≡ lowest K.ring (open_at holds.now.entries (about (circuit table.now) node)) row.now None 0 options.now }
 {
     let mut best = None;
     for j in 0..options.len() {
@@ -251,7 +251,7 @@ fn part_value<K: Figure>(
     requires node { node < length table.now.nodes.now }
     requires done { length done.now ≡ node * stride }
     requires row { length row.now ≡ 2 * length options.now }
-    ensures { result ≡ value_by ring (roles table.now) sheet.now holds.now.entries (circuit table.now) stride done.now row.now node options.now }
+    ensures { result ≡ value_by K.ring (roles table.now) sheet.now holds.now.entries (circuit table.now) stride done.now row.now node options.now }
 {
     match least_side(table, holds, options, node, row) {
         Some(least) => least,
@@ -274,7 +274,7 @@ fn write_part<K: Figure>(
     requires stride { stride ≡ 2 * length options.now + 1 }
     requires node { node < length table.now.nodes.now }
     requires room { node * stride + stride ≤ length work.old }
-    ensures { work.new ≡ over work.old (node * stride) (part_in ring (roles table.now) sheet.now holds.now.entries (circuit table.now) stride (take (node * stride) work.old) node options.now) }
+    ensures { work.new ≡ over work.old (node * stride) (part_in K.ring (roles table.now) sheet.now holds.now.entries (circuit table.now) stride (take (node * stride) work.old) node options.now) }
 {
     write_sides(table, holds, options, stride, node, work);
     let base = node * stride;
@@ -303,7 +303,7 @@ fn write_parts<K: Figure>(
     requires listed { options.now ≡ options_of (roles table.now) }
     requires few { length options.now ≤ 64 }
     requires room { length (circuit table.now) * (2 * length options.now + 1) ≤ length work.old }
-    ensures { work.new ≡ laid_out ring (roles table.now) sheet.now (pairs ring (roles table.now) sheet.now (circuit table.now) holds.now.entries) ++ drop (length (circuit table.now) * (2 * length options.now + 1)) work.old }
+    ensures { work.new ≡ laid_out K.ring (roles table.now) sheet.now (pairs K.ring (roles table.now) sheet.now (circuit table.now) holds.now.entries) ++ drop (length (circuit table.now) * (2 * length options.now + 1)) work.old }
 {
     let stride = 2 * options.len() + 1;
     for i in 0..table.nodes.len() {
@@ -317,7 +317,7 @@ fn write_parts<K: Figure>(
 pub fn pair_pass<K: Figure>(table: &Table, sheet: &[K], holds: &Holds, work: &mut [K])
     requires room { length (circuit table.now) * (2 * length (options_of (roles table.now)) + 1) ≤ length work.old }
     requires sheet { 2 * length (roles table.now) ≤ length sheet.now }
-    ensures { work.new ≡ laid_out ring (roles table.now) sheet.now (pairs ring (roles table.now) sheet.now (circuit table.now) holds.now.entries) ++ drop (length (circuit table.now) * (2 * length (options_of (roles table.now)) + 1)) work.old }
+    ensures { work.new ≡ laid_out K.ring (roles table.now) sheet.now (pairs K.ring (roles table.now) sheet.now (circuit table.now) holds.now.entries) ++ drop (length (circuit table.now) * (2 * length (options_of (roles table.now)) + 1)) work.old }
 {
     let mut numbers = [0; 64];
     let count = list_options(table, &mut numbers);

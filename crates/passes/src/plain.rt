@@ -19,7 +19,7 @@ use text::record::{Form, Node};
 fn literal_plain<K: Figure>(table: &Table, sheet: &[K], holds: &Holds, variable: u16, on: bool) -> K
     requires known { known (length (roles table.now)) variable ≡ true }
     requires sheet { 2 * length (roles table.now) ≤ length sheet.now }
-    ensures { result ≡ plain ring (roles table.now) sheet.now holds.now.entries [] (lit variable on) }
+    ensures { result ≡ plain K.ring (roles table.now) sheet.now holds.now.entries [] (lit variable on) }
 {
     if table.has_option(variable) {
         if holds.denies(variable, on) {
@@ -34,7 +34,7 @@ fn literal_plain<K: Figure>(table: &Table, sheet: &[K], holds: &Holds, variable:
 
 /// The value of a fork: the greater of its branches' values for an option, for a chance their sum.
 pub(crate) fn fork_value<K: Figure>(table: &Table, variable: u16, on: K, off: K) -> K
-    ensures { result ≡ fork_of ring (roles table.now) variable on off }
+    ensures { result ≡ fork_of K.ring (roles table.now) variable on off }
 {
     if table.has_option(variable) {
         greater(on, off)
@@ -56,7 +56,7 @@ pub(crate) fn node_plain<K: Figure>(
     requires ranged { ranged table.now.children.now node ≡ true }
     requires readable { readable (length (roles table.now)) (length done.now) stride (shape table.now.children.now node) ≡ true }
     requires sheet { 2 * length (roles table.now) ≤ length sheet.now }
-    ensures { result ≡ plain_in ring (roles table.now) sheet.now holds.now.entries stride done.now (shape table.now.children.now node) }
+    ensures { result ≡ plain_in K.ring (roles table.now) sheet.now holds.now.entries stride done.now (shape table.now.children.now node) }
 {
     let first = node.first as usize;
     match node.form {
@@ -80,7 +80,7 @@ pub(crate) fn node_plain<K: Figure>(
 pub fn plain_pass<K: Figure>(table: &Table, sheet: &[K], holds: &Holds, work: &mut [K])
     requires room { length (circuit table.now) ≤ length work.old }
     requires sheet { 2 * length (roles table.now) ≤ length sheet.now }
-    ensures { work.new ≡ plains ring (roles table.now) sheet.now (circuit table.now) holds.now.entries ++ drop (length (circuit table.now)) work.old }
+    ensures { work.new ≡ plains K.ring (roles table.now) sheet.now (circuit table.now) holds.now.entries ++ drop (length (circuit table.now)) work.old }
 {
     for i in 0..table.nodes.len() {
         let value = node_plain(table, sheet, holds, &work[0..i], 1, table.nodes[i]);

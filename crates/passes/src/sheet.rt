@@ -31,7 +31,7 @@ fn weigh_in<K: Figure>(figures: &mut [K], variable: u16, on: K, off: K)
 /// A variable's on (or off) weight.
 pub(crate) fn look_up<K: Figure>(figures: &[K], variable: u16, on: bool) -> K
     requires { (0 < variable) × (2 * variable ≤ length figures.now) }
-    ensures { result ≡ weight ring figures.now variable on }
+    ensures { result ≡ weight K.ring figures.now variable on }
 {
     figures[place_of(variable, on)]
 }
@@ -56,7 +56,7 @@ impl<'a, K: Figure> Sheet<'a, K> {
     /// A variable's on (or off) weight.
     pub fn lookup(&self, variable: u16, on: bool) -> K
         requires { (0 < variable) × (2 * variable ≤ length self.now.figures.now) }
-        ensures { result ≡ weight ring self.now.figures.now variable on }
+        ensures { result ≡ weight K.ring self.now.figures.now variable on }
     {
         look_up(self.figures, variable, on)
     }

@@ -10,7 +10,7 @@ use kinds::figure::Figure;
 pub(crate) fn value_of<K: Figure>(done: &[K], stride: usize, node: u16) -> K
     requires wide { 0 < stride }
     requires inside { inside (length done.now) stride node ≡ true }
-    ensures { result ≡ value_in ring stride done.now node }
+    ensures { result ≡ value_in K.ring stride done.now node }
 {
     done[node as usize * stride]
 }
@@ -19,7 +19,7 @@ pub(crate) fn value_of<K: Figure>(done: &[K], stride: usize, node: u16) -> K
 pub(crate) fn product_of<K: Figure>(done: &[K], stride: usize, children: &[u16]) -> K
     requires wide { 0 < stride }
     requires inside { every (inside (length done.now) stride) children.now ≡ true }
-    ensures { result ≡ product_in ring stride done.now children.now }
+    ensures { result ≡ product_in K.ring stride done.now children.now }
 {
     let mut all = K::one();
     for c in children {

@@ -2,7 +2,7 @@
 use Rattle.std.proofs.Common.{◌≡◌, ℕ, ◌+◌, ◌-◌, ◌<◌, ◌≤◌, List, [], ◌∷◌, ◌++◌, length, get_or, drop, IfOk, Ok, Err, codes, IsAscii, Result, sym, refl, ap, ◌∙◌, subst, arith}
 use Rattle.std.proofs.lemmas.List.{at_drop_more, length-take}
 use Rattle.text.specs.Format.{options, listed}
-use Rattle.text.proofs.Says.{options_within as options-few}
+use Rattle.text.proofs.Says.{options_within as options_few}
 use Rattle.text.specs.declared.record.Variable.{Variable}
 use Rattle.text.specs.declared.record.Variables.{Variables}
 use Rattle.text.specs.declared.record.Form.{Form}
@@ -16,7 +16,7 @@ use Rattle.quote.specs.Report.{with_form, total, no_forms, forms_on, forms_of, f
 -- not more options than variables
 
 pub options_within : (vs : Variables) → options (listed vs) ≤ vs.count
-options_within vs = omega (arith, options-few (listed vs), length-take vs.count vs.all)
+options_within vs = omega (arith, options_few (listed vs), length-take vs.count vs.all)
 
 -- one node more
 

@@ -7,7 +7,7 @@ use Rattle.std.proofs.lemmas.Bool.{and_parts, or_cases, eqb-true, leb-true}
 use Rattle.kinds.specs.Semiring.{Semiring}
 use Rattle.text.specs.Format.{Rooms, rooms_for, file_says, overwritten, listed, spelled, named_printable}
 use Rattle.text.specs.Lines.{every, printable}
-use Rattle.text.specs.declared.fault.Fault as text-fault
+use Rattle.text.specs.declared.fault.Fault as text_fault
 use Rattle.text.specs.declared.record.Contents.{Contents}
 use Rattle.text.specs.declared.record.Node.{Node}
 use Rattle.text.specs.declared.record.Variable.{Variable}
@@ -63,7 +63,7 @@ module _ {X Y F : Type 0} (bytes : X → List ℕ) (r : Result X Y) (R : Semirin
     given : file_says (rooms_for ns cs) file ≡ file_says rooms file
     given = ap (λ q. file_says q file) (rooms_are ns cs en ec)
 
-    pub refused_file : (f : text-fault.Fault) → Err f ≡ (file_says (rooms_for ns cs) file).answer → Refuses bytes r (Table (Text f)) → Reported
+    pub refused_file : (f : text_fault.Fault) → Err f ≡ (file_says (rooms_for ns cs) file).answer → Refuses bytes r (Table (Text f)) → Reported
     refused_file f is printed =
         IfOk-weaker r _ _ (λ s h. h tt)
         (stopped bytes r (Unit {0}) (λ e. Table (Text e)) (file_says rooms file).answer next f (is ∙ ap (λ q. q.answer) given) printed)

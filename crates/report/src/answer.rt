@@ -18,7 +18,7 @@ pub fn report_text<K: Written>(
     bound: K,
     found: &Found<K>,
 ) -> Result<String, AllocError>
-    ensures { IfOk result (λ s. PlainNames (listed variables.now) → string_bytes s ≡ text_of (report_of text (listed variables.now) bound found.now)) }
+    ensures { IfOk result (λ s. PlainNames (listed variables.now) → string_bytes s ≡ text_of (report_of K.text (listed variables.now) bound found.now)) }
 {
     let most = bound_text(heap, bound)?;
     let best = selection_text(heap, variables, found)?;
@@ -27,7 +27,7 @@ pub fn report_text<K: Written>(
 
 /// The line of the bound.
 fn bound_text<K: Written>(heap: Global, bound: K) -> Result<String, AllocError>
-    ensures { IfOk result (λ s. string_bytes s ≡ text_of (bound_line text bound ∷ [])) }
+    ensures { IfOk result (λ s. string_bytes s ≡ text_of (bound_line K.text bound ∷ [])) }
 {
     let figure = bound.write(heap)?;
     format!(in heap; "B\t{figure}\n")
@@ -39,7 +39,7 @@ fn selection_text<K: Written>(
     variables: &Variables,
     found: &Found<K>,
 ) -> Result<String, AllocError>
-    ensures { IfOk result (λ s. PlainNames (listed variables.now) → string_bytes s ≡ text_of (selection_line text (listed variables.now) found.now ∷ [])) }
+    ensures { IfOk result (λ s. PlainNames (listed variables.now) → string_bytes s ≡ text_of (selection_line K.text (listed variables.now) found.now ∷ [])) }
 {
     let openings = found.openings;
     match found.best {

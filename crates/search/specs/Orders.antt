@@ -70,7 +70,7 @@ module _ {F : Type 0} (R : Semiring F) where
     pub first : (x : Lean F) → Among x ls → x.mentioned ≡ true → R.upto (weaker x) (weaker l) ≡ true → l.option ≤ x.option
 
   -- what strongest lean answers: the strongest lean, or number order's answer if the root mentions none of the options
-  pub record Strongest-answers : Type 0 where
+  pub record StrongestAnswers : Type 0 where
     pub leans : (ls : List (Lean F)) → rising (numbers ls) ≡ true → (x : Lean F) → Among x ls → x.mentioned ≡ true
         → (l : Lean F) × Strongest l ls × (strongest ls ≡ l.option)
     pub levels : (ls : List (Lean F)) → ((x : Lean F) → Among x ls → x.mentioned ≡ false) → strongest ls ≡ lowest ls

@@ -8,7 +8,7 @@ use Rattle.table.specs.Circuit.{every}
 use Rattle.table.specs.Facts.{Among}
 use Rattle.passes.specs.Holding.{filter}
 use Rattle.passes.proofs.Filters.{kept, filter_empty}
-use Rattle.search.specs.Orders.{Lean, numbers, rising, Lawful, lowest, LowestAnswers, weaker, weakest, weakest_or, strongest, Strongest, Strongest-answers}
+use Rattle.search.specs.Orders.{Lean, numbers, rising, Lawful, lowest, LowestAnswers, weaker, weakest, weakest_or, strongest, Strongest, StrongestAnswers}
 use Rattle.search.specs.Rising.{among_listed, among_map, first_below, rising_filter}
 
 pub lawful_lowest : {F : Type 0} → Lawful (lowest {F = F})
@@ -114,7 +114,7 @@ module _ {F : Type 0} {R : Semiring F} (laws : Laws R) where
         ap (weakest_or R (lowest ls)) e,
       )
 
-  pub strongest_answers : Strongest-answers R
+  pub strongest_answers : StrongestAnswers R
   strongest_answers = record {
     leans = λ ls r x m t. strongest_leans ls r x m t (mentioned_of R ls) refl;
     levels = λ ls h. ap (weakest_or R (lowest ls)) (filter_empty (λ l. l.mentioned) ls h);

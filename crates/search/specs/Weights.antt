@@ -3,12 +3,12 @@
 -- A text is a list of lines, a line a list of fields: the letter W, a chance's number, its on weight, its off weight.
 use Rattle.std.specs.Prelude.{ℕ, ◌+◌, ◌*◌, Bool, true, cond, ◌&&◌, List, [], ◌∷◌, length, replicate, Some, None, Ok, Err, Option, Result, ◌==◌, slice_index_or}
 use Rattle.std.specs.Str.{bytes_eq}
-use Rattle.text.specs.declared.fault.Fault.TheVariants as text-fault
+use Rattle.text.specs.declared.fault.Fault.TheVariants as text_fault
 use Rattle.text.specs.declared.fault.Reason.{Reason}
 use Rattle.text.specs.declared.fault.Reason.TheVariants as reason
 use Rattle.text.specs.Format.{Said, then, provided, number_field, overwritten}
 use Rattle.text.specs.Lines.{every, printable, lines, fields}
-use Rattle.table.specs.declared.fault.Fault.TheVariants as table-fault
+use Rattle.table.specs.declared.fault.Fault.TheVariants as table_fault
 use Rattle.table.specs.Sound.{Roles}
 use Rattle.search.specs.declared.fault.Fault.{Fault}
 use Rattle.search.specs.declared.fault.Fault.TheVariants.{Table, ShortSheet, WeightLine}
@@ -28,7 +28,7 @@ is_weight_line l = every printable l && length (fields l) == 4 && bytes_eq (fiel
 
 -- a refusal of a line's form is the text's
 abbrev pub in_text : Reason → ℕ → Fault
-in_text r line = Table (table-fault.Text (text-fault.Line r line))
+in_text r line = Table (table_fault.Text (text_fault.Line r line))
 
 module _ {F : Type 0} where
   -- a weight, if it has the form

@@ -4,7 +4,7 @@ ghost use Rattle.table.specs.Whole.{circuit, roles};
 ghost use Rattle.search.specs.Best.{Answers};
 ghost use Rattle.search.specs.Calls.{figure_refusals, bound_refusals, figure_held, bound_under, counted, paired, places};
 ghost use Rattle.search.specs.Day.{Bounded};
-ghost use Rattle.search.specs.Select.{select as select-of};
+ghost use Rattle.search.specs.Select.{select as select_of};
 ghost use Rattle.search.specs.Study.{answered, changed_to};
 
 use crate::explore::explore;
@@ -26,9 +26,9 @@ pub fn figure<K: Figure>(
     sheet: &Sheet<K>,
     work: &mut [K],
 ) -> Result<K, Fault>
-    ensures answer { result ≡ answered (figure_refusals table.now holds.now sheet.now work.old) (figure_held table.now holds.now sheet.now ring) }
+    ensures answer { result ≡ answered (figure_refusals table.now holds.now sheet.now work.old) (figure_held table.now holds.now sheet.now K.ring) }
     ensures behind { drop (places table.now) work.new ≡ drop (places table.now) work.old }
-    ensures work { work.new ≡ changed_to (figure_refusals table.now holds.now sheet.now work.old) (counted table.now holds.now sheet.now ring work.old) work.old }
+    ensures work { work.new ≡ changed_to (figure_refusals table.now holds.now sheet.now work.old) (counted table.now holds.now sheet.now K.ring work.old) work.old }
 {
     let tests = [
         short_sheet(table, sheet.figures.len()),
@@ -49,10 +49,10 @@ pub fn bound<K: Figure>(
     sheet: &Sheet<K>,
     work: &mut [K],
 ) -> Result<K, Fault>
-    ensures answer { result ≡ answered (bound_refusals table.now holds.now sheet.now work.old) (bound_under table.now holds.now sheet.now ring holds.now.entries) }
+    ensures answer { result ≡ answered (bound_refusals table.now holds.now sheet.now work.old) (bound_under table.now holds.now sheet.now K.ring holds.now.entries) }
     ensures behind { drop (places table.now) work.new ≡ drop (places table.now) work.old }
-    ensures bounded { Bounded ring (roles table.now) (circuit table.now) holds.now.entries sheet.now.figures.now (bound_under table.now holds.now sheet.now ring holds.now.entries) }
-    ensures work { work.new ≡ changed_to (bound_refusals table.now holds.now sheet.now work.old) (paired table.now holds.now sheet.now ring work.old) work.old }
+    ensures bounded { Bounded K.ring (roles table.now) (circuit table.now) holds.now.entries sheet.now.figures.now (bound_under table.now holds.now sheet.now K.ring holds.now.entries) }
+    ensures work { work.new ≡ changed_to (bound_refusals table.now holds.now sheet.now work.old) (paired table.now holds.now sheet.now K.ring work.old) work.old }
 {
     let tests = [
         short_sheet(table, sheet.figures.len()),
@@ -73,8 +73,8 @@ pub fn select<K: Figure, O: BranchingOrder<K>>(
     work: &mut [K],
     order: &O,
 ) -> Result<Found<K>, Fault>
-    ensures answer { result ≡ answered (bound_refusals table.now holds.now sheet.now work.old) (select-of ring (picks order.now) (roles table.now) (circuit table.now) sheet.now.figures.now holds.now.entries) }
-    ensures best { length (roles table.now) ≤ length holds.now.entries → Answers ring (roles table.now) (circuit table.now) sheet.now.figures.now holds.now.entries (select-of ring (picks order.now) (roles table.now) (circuit table.now) sheet.now.figures.now holds.now.entries).best }
+    ensures answer { result ≡ answered (bound_refusals table.now holds.now sheet.now work.old) (select_of K.ring (picks order.now) (roles table.now) (circuit table.now) sheet.now.figures.now holds.now.entries) }
+    ensures best { length (roles table.now) ≤ length holds.now.entries → Answers K.ring (roles table.now) (circuit table.now) sheet.now.figures.now holds.now.entries (select_of K.ring (picks order.now) (roles table.now) (circuit table.now) sheet.now.figures.now holds.now.entries).best }
     ensures behind { drop (places table.now) work.new ≡ drop (places table.now) work.old }
     ensures refused { is_ok result ≡ false → work.new ≡ work.old }
 {

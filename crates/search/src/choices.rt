@@ -2,7 +2,7 @@
 ghost use Rattle.std.specs.Prelude.{◌≡◌, ◌+◌, ◌*◌, ◌<◌, ◌≤◌, [], ◌∷◌, ◌++◌, length, take};
 ghost use Rattle.table.specs.Sound.{options};
 ghost use Rattle.table.specs.Whole.{circuit, roles};
-ghost use Rattle.search.specs.Listing.{choices_from, root_mentions, choices as choices-of};
+ghost use Rattle.search.specs.Listing.{choices_from, root_mentions, choices as choices_of};
 ghost use Rattle.search.specs.Orders.{told};
 ghost use Rattle.search.specs.Select.{named};
 ghost use Rattle.search.specs.Walk.{gate};
@@ -46,7 +46,7 @@ fn list_choice(
 /// Lists the free options by rising number: how many there are.
 fn list_choices(table: &Table, holds: &Holds, out: &mut [Choice]) -> usize
     requires { length (roles table.now) ≤ length out.old }
-    ensures listed { take result out.new ≡ choices-of (roles table.now) (circuit table.now) holds.now.entries }
+    ensures listed { take result out.new ≡ choices_of (roles table.now) (circuit table.now) holds.now.entries }
     ensures few { result ≤ length (roles table.now) }
 {
     let mut count = 0;
@@ -71,7 +71,7 @@ pub(crate) fn next_option<K: Figure, O: BranchingOrder<K>>(
     part: &[K],
 ) -> u16
     requires { length part.now ≡ 2 * length (options (roles table.now)) + 1 }
-    ensures { result ≡ gate levels (named (picks order.now) (told ring part.now (choices-of (roles table.now) (circuit table.now) holds.now.entries))) }
+    ensures { result ≡ gate levels (named (picks order.now) (told K.ring part.now (choices_of (roles table.now) (circuit table.now) holds.now.entries))) }
 {
     if levels == 0 {
         return 0;

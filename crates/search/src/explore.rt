@@ -17,7 +17,7 @@ use table::table::Table;
 
 /// The figure that a branch has to beat.
 fn figure_to_beat<K: Figure>(found: &Found<K>) -> K
-    ensures { result ≡ best_figure ring found.now.best }
+    ensures { result ≡ best_figure K.ring found.now.best }
 {
     match found.best {
         Some(selection) => selection.figure,
@@ -27,7 +27,7 @@ fn figure_to_beat<K: Figure>(found: &Found<K>) -> K
 
 /// Takes a selection that ranks above the best so far.
 fn offer<K: Figure>(found: &mut Found<K>, holds: &Holds, figure: K)
-    ensures { found.new ≡ offered ring holds.now.entries figure found.old }
+    ensures { found.new ≡ offered K.ring holds.now.entries figure found.old }
 {
     if !figure.no_higher(figure_to_beat(found)) {
         found.best = Some(Selection {
@@ -75,8 +75,8 @@ fn open<K: Figure, O: BranchingOrder<K>>(
     requires room { length (circuit table.now) * (2 * length (options (roles table.now)) + 1) ≤ length work.old }
     requires sheet { 2 * length (roles table.now) ≤ length sheet.now }
     requires few { found.old.openings < 2 ^ 63 }
-    ensures option { result ≡ (turn ring (of_table ring (picks order.now) (roles table.now) (circuit table.now) sheet.now) levels holds.now.entries found.old).0 }
-    ensures found { found.new ≡ (turn ring (of_table ring (picks order.now) (roles table.now) (circuit table.now) sheet.now) levels holds.now.entries found.old).1 }
+    ensures option { result ≡ (turn K.ring (of_table K.ring (picks order.now) (roles table.now) (circuit table.now) sheet.now) levels holds.now.entries found.old).0 }
+    ensures found { found.new ≡ (turn K.ring (of_table K.ring (picks order.now) (roles table.now) (circuit table.now) sheet.now) levels holds.now.entries found.old).1 }
     ensures work { drop (length (circuit table.now) * (2 * length (options (roles table.now)) + 1)) work.new ≡ drop (length (circuit table.now) * (2 * length (options (roles table.now)) + 1)) work.old }
 {
     let bound = pair_bound(table, sheet, holds, work);
@@ -107,7 +107,7 @@ pub(crate) fn explore<K: Figure, O: BranchingOrder<K>>(
 ) -> Found<K>
     requires room { length (circuit table.now) * (2 * length (options (roles table.now)) + 1) ≤ length work.old }
     requires sheet { 2 * length (roles table.now) ≤ length sheet.now }
-    ensures found { result ≡ select ring (picks order.now) (roles table.now) (circuit table.now) sheet.now holds.now.entries }
+    ensures found { result ≡ select K.ring (picks order.now) (roles table.now) (circuit table.now) sheet.now holds.now.entries }
     ensures work { drop (length (circuit table.now) * (2 * length (options (roles table.now)) + 1)) work.new ≡ drop (length (circuit table.now) * (2 * length (options (roles table.now)) + 1)) work.old }
 {
     let levels = table.variables.options();

@@ -16,7 +16,7 @@ pub trait BranchingOrder<K: Figure> {
         requires some { 0 < length free.now }
         requires rising { rising (options_of free.now) ≡ true }
         requires placed { every (placed (length part.now)) free.now ≡ true }
-        ensures { result ≡ picks self.now (told ring part.now free.now) };
+        ensures { result ≡ picks self.now (told K.ring part.now free.now) };
 
     ghost names: { (s : Self) → Lawful (picks s) };
 }

@@ -1,6 +1,6 @@
 //! Strongest lean: branch on the free option whose weaker value at the root ranks lowest.
 ghost use Rattle.std.specs.Prelude.{◌≡◌, true, length};
-ghost use Rattle.search.specs.Orders.{Strongest-answers, strongest, weaker as weaker-of, stronger as stronger-of, leading as leading-of, lean_at, placed, best_placed};
+ghost use Rattle.search.specs.Orders.{StrongestAnswers, strongest, weaker as weaker_of, stronger as stronger_of, leading as leading_of, lean_at, placed, best_placed};
 ghost use Rattle.search.specs.OrdersLemmas.{lawful_strongest};
 
 use crate::choice::Choice;
@@ -16,7 +16,7 @@ pub struct StrongestLean;
 /// The lesser of an option's two values.
 fn weaker<K: Figure>(part: &[K], choice: Choice) -> K
     requires { placed (length part.now) choice ≡ true }
-    ensures { result ≡ weaker-of ring (lean_at ring part.now choice) }
+    ensures { result ≡ weaker_of K.ring (lean_at K.ring part.now choice) }
 {
     lesser(part[choice.place], part[choice.place + 1])
 }
@@ -25,7 +25,7 @@ fn weaker<K: Figure>(part: &[K], choice: Choice) -> K
 fn stronger<K: Figure>(part: &[K], best: Option<Choice>, choice: Choice) -> Choice
     requires best { best_placed (length part.now) best ≡ true }
     requires choice { placed (length part.now) choice ≡ true }
-    ensures { result ≡ stronger-of ring part.now best choice }
+    ensures { result ≡ stronger_of K.ring part.now best choice }
 {
     match best {
         Some(b) => if weaker(part, b).no_higher(weaker(part, choice)) {
@@ -41,7 +41,7 @@ fn stronger<K: Figure>(part: &[K], best: Option<Choice>, choice: Choice) -> Choi
 fn leading<K: Figure>(part: &[K], best: Option<Choice>, choice: Choice) -> Option<Choice>
     requires best { best_placed (length part.now) best ≡ true }
     requires choice { placed (length part.now) choice ≡ true }
-    ensures { result ≡ leading-of ring part.now best choice }
+    ensures { result ≡ leading_of K.ring part.now best choice }
 {
     if choice.mentioned {
         Some(stronger(part, best, choice))
@@ -51,9 +51,9 @@ fn leading<K: Figure>(part: &[K], best: Option<Choice>, choice: Choice) -> Optio
 }
 
 impl<K: Figure> BranchingOrder<K> for StrongestLean {
-    ghost picks = { λ _ ls. strongest ring ls };
+    ghost picks = { λ _ ls. strongest K.ring ls };
 
-    ghost names = { λ s. lawful_strongest K.Figure.ring };
+    ghost names = { λ s. lawful_strongest K.ring };
 
     fn pick(&self, free: &[Choice], part: &[K]) -> u16 {
         let mut best = None;
@@ -69,7 +69,7 @@ impl<K: Figure> BranchingOrder<K> for StrongestLean {
 
 /// The order that names the strongest lean of those that it is told of.
 pub fn strongest_lean<K: Figure>() -> StrongestLean
-    ensures { Strongest-answers ring }
+    ensures { StrongestAnswers K.ring }
 {
     StrongestLean
 }

@@ -2,7 +2,7 @@
 ghost use Rattle.std.specs.Prelude.{◌≡◌, ◌<◌, ◌≤◌, not, ◌&&◌, length};
 ghost use Rattle.table.specs.Sound.{is_option};
 ghost use Rattle.table.specs.Whole.{circuit, roles};
-ghost use Rattle.passes.specs.Holding.{entry, is_free as is-free-entry};
+ghost use Rattle.passes.specs.Holding.{entry, is_free as is_free_entry};
 ghost use Rattle.search.specs.Study.{first_fit, short_sheet, stray_hold, no_option, no_chance, held_already, not_held, still_free, short_work, pair_places};
 
 use crate::fault::Fault;
@@ -50,14 +50,14 @@ fn has_stray(table: &Table, entries: &[Entry]) -> bool
 
 /// Whether a variable that has this entry is held, and not an option.
 fn is_stray(table: &Table, variable: u16, entry: Entry) -> bool
-    ensures { result ≡ (not (is_option (roles table.now) variable) && not (is-free-entry entry)) }
+    ensures { result ≡ (not (is_option (roles table.now) variable) && not (is_free_entry entry)) }
 {
     !table.has_option(variable) && !is_free(entry)
 }
 
 /// Whether a variable that has this entry is not held.
 fn is_free(entry: Entry) -> bool
-    ensures { result ≡ is-free-entry entry }
+    ensures { result ≡ is_free_entry entry }
 {
     match entry {
         Entry::Free => true,
@@ -115,7 +115,7 @@ fn has_free(table: &Table, holds: &Holds) -> bool
 /// Whether a variable is an option, and not held.
 fn is_free_option(table: &Table, holds: &Holds, variable: u16) -> bool
     requires { 0 < variable }
-    ensures { result ≡ (is_option (roles table.now) variable && is-free-entry (entry holds.now.entries variable)) }
+    ensures { result ≡ (is_option (roles table.now) variable && is_free_entry (entry holds.now.entries variable)) }
 {
     table.has_option(variable) && is_free(holds.entry(variable))
 }

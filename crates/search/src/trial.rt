@@ -29,7 +29,7 @@ fn bound_if_held<K: Figure>(
     requires known { (0 < variable) × (variable ≤ 64) }
     requires room { length (circuit table.now) * (2 * length (options (roles table.now)) + 1) ≤ length work.old }
     requires sheet { 2 * length (roles table.now) ≤ length sheet.now }
-    ensures value { result ≡ bound_of ring (roles table.now) sheet.now (circuit table.now) (with_entry holds.old.entries variable (held on)) }
+    ensures value { result ≡ bound_of K.ring (roles table.now) sheet.now (circuit table.now) (with_entry holds.old.entries variable (held on)) }
     ensures same { holds.new.entries ≡ holds.old.entries }
     ensures behind { drop (places table.now) work.new ≡ drop (places table.now) work.old }
 {
@@ -54,8 +54,8 @@ pub fn trial<K: Figure>(
     variable: u16,
     on: bool,
 ) -> Result<K, Fault>
-    ensures answer { result ≡ answered (trial_refusals table.now holds.old sheet.now work.old variable) (bound_under table.now holds.old sheet.now ring (entries_with holds.old variable (held on))) }
-    ensures bounded { Bounded ring (roles table.now) (circuit table.now) (entries_with holds.old variable (held on)) sheet.now.figures.now (bound_under table.now holds.old sheet.now ring (entries_with holds.old variable (held on))) }
+    ensures answer { result ≡ answered (trial_refusals table.now holds.old sheet.now work.old variable) (bound_under table.now holds.old sheet.now K.ring (entries_with holds.old variable (held on))) }
+    ensures bounded { Bounded K.ring (roles table.now) (circuit table.now) (entries_with holds.old variable (held on)) sheet.now.figures.now (bound_under table.now holds.old sheet.now K.ring (entries_with holds.old variable (held on))) }
     ensures holds { holds.new.entries ≡ holds.old.entries }
     ensures behind { drop (places table.now) work.new ≡ drop (places table.now) work.old }
     ensures refused { is_ok result ≡ false → work.new ≡ work.old }

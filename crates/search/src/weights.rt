@@ -28,7 +28,7 @@ fn is_weight_line(text: &[u8]) -> bool
 /// The weight in the field `k` of a line.
 fn read_weight<K: Written>(text: &[u8], k: usize) -> Result<K, Reason>
     requires { k < length (fields text.now) }
-    ensures { result ≡ weight_field reading (field_at k text.now) }
+    ensures { result ≡ weight_field K.reading (field_at k text.now) }
 {
     match K::read(field(text, k)) {
         Some(weight) => Ok(weight),
@@ -38,7 +38,7 @@ fn read_weight<K: Written>(text: &[u8], k: usize) -> Result<K, Reason>
 
 /// What a line says by its form.
 fn read_weighing<K: Written>(text: &[u8]) -> Result<Weighing<K>, Reason>
-    ensures { result ≡ form_says reading text.now }
+    ensures { result ≡ form_says K.reading text.now }
 {
     if !is_weight_line(text) {
         return Err(Reason::Line);
@@ -58,7 +58,7 @@ fn in_text(reason: Reason, line: usize) -> Fault
 
 /// What the line of this number says of a table: its form is judged before its chance.
 fn weight_line<K: Written>(table: &Table, text: &[u8], line: usize) -> Result<Weighing<K>, Fault>
-    ensures { result ≡ line_says reading (roles table.now) line text.now }
+    ensures { result ≡ line_says K.reading (roles table.now) line text.now }
 {
     match read_weighing(text) {
         Ok(weighing) => {
@@ -74,7 +74,7 @@ fn weight_line<K: Written>(table: &Table, text: &[u8], line: usize) -> Result<We
 /// Writes one to the first `count` places.
 fn write_ones<K: Figure>(figures: &mut [K], count: usize)
     requires { count ≤ length figures.old }
-    ensures { figures.new ≡ overwritten (replicate count ring.one) figures.old }
+    ensures { figures.new ≡ overwritten (replicate count K.ring.one) figures.old }
 {
     for i in 0..count {
         figures[i] = K::one();
@@ -90,8 +90,8 @@ pub fn read_weights<K: Written>(
     text: &[u8],
 ) -> Result<(), Fault>
     ensures same { sheet.new.figures.ghost_name ≡ sheet.old.figures.ghost_name }
-    ensures answer { result ≡ (weights_say reading (roles table.now) K.Figure.ring.one sheet.old.figures.now text.now).answer }
-    ensures sheet { sheet.new.figures.now ≡ (weights_say reading (roles table.now) K.Figure.ring.one sheet.old.figures.now text.now).sheet }
+    ensures answer { result ≡ (weights_say K.reading (roles table.now) K.ring.one sheet.old.figures.now text.now).answer }
+    ensures sheet { sheet.new.figures.now ≡ (weights_say K.reading (roles table.now) K.ring.one sheet.old.figures.now text.now).sheet }
 {
     let count = 2 * table.variables.as_slice().len();
     if sheet.figures.len() < count {

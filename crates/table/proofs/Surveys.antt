@@ -3,7 +3,7 @@ use Rattle.std.proofs.Common.{◌≡◌, ℕ, ◌+◌, ◌-◌, ◌<◌, ◌≤�
 use lib.Bits.{bit_and}
 use Rattle.std.proofs.lemmas.Bool.{cond-true, cond-false, eq-eqb, ne_eqb, le-leb, lt-leb}
 use Rattle.std.proofs.lemmas.List.{get_or-take, length-map, length-set, take_more_set, map-append, map_more, get_or-map, drop-set-lt, drop-drop, drop-replicate, take_all, take-append-drop, at_drop_more, at_drop_all}
-use Rattle.text.specs.declared.fault.Fault.TheVariants as text-fault
+use Rattle.text.specs.declared.fault.Fault.TheVariants as text_fault
 use Rattle.text.specs.declared.fault.Reason.TheVariants as reason
 use Rattle.text.specs.declared.record.Node.{Node}
 use Rattle.text.specs.declared.record.Variable.{Variable}
@@ -196,11 +196,11 @@ module _ (rs : Roles) (cs : List ℕ) (ns : List Node) (i : ℕ) (sets on off : 
 
 -- the limits come first
 module _ (vs : Variables) (ns : List Node) (cs : List ℕ) where
-  pub limits_fail : false ≡ counts_within vs ns → Err (fault.Text (text-fault.Line reason.Limit 1)) ≡ check_says vs ns cs
+  pub limits_fail : false ≡ counts_within vs ns → Err (fault.Text (text_fault.Line reason.Limit 1)) ≡ check_says vs ns cs
   unfolding check_says
   limits_fail e = sym (cond-false (counts_within vs ns) _ _ (sym e))
 
-  pub options_fail : true ≡ counts_within vs ns → 20 < options (listed vs) → Err (fault.Text (text-fault.Line reason.Variable (vs.count + 1))) ≡ check_says vs ns cs
+  pub options_fail : true ≡ counts_within vs ns → 20 < options (listed vs) → Err (fault.Text (text_fault.Line reason.Variable (vs.count + 1))) ≡ check_says vs ns cs
   unfolding check_says
   options_fail e h = sym (cond-true (counts_within vs ns) _ _ (sym e) ∙ cond-false (options_within vs) _ _ (lt-leb (options (listed vs)) 20 h))
 

@@ -1,7 +1,7 @@
 -- What the check answers. Assumes nothing.
 use Rattle.std.specs.Prelude.{ℕ, ◌+◌, Bool, cond, ◌&&◌, List, length, Ok, Err, Result, nat_le}
 use Rattle.text.specs.Format as format
-use Rattle.text.specs.declared.fault.Fault.TheVariants as text-fault
+use Rattle.text.specs.declared.fault.Fault.TheVariants as text_fault
 use Rattle.text.specs.declared.fault.Reason.TheVariants as reason
 use Rattle.text.specs.declared.record.Node.{Node}
 use Rattle.text.specs.declared.record.Variables.{Variables}
@@ -30,5 +30,5 @@ check_says vs ns cs =
     cond (counts_within vs ns)
     (cond (options_within vs)
     (answer_by (roles_of vs) (shapes cs ns) (verdict (roles_of vs) (shapes cs ns)))
-    (Err (fault.Text (text-fault.Line reason.Variable (vs.count + 1)))))
-    (Err (fault.Text (text-fault.Line reason.Limit 1)))
+    (Err (fault.Text (text_fault.Line reason.Variable (vs.count + 1)))))
+    (Err (fault.Text (text_fault.Line reason.Limit 1)))

@@ -9,16 +9,16 @@ use Rattle.kinds.proofs.written.read_load.Goals as goal
 read_as : (s : List ℕ) (cap n : ℕ) (r : Option ℕ) → cap ≡ 4294967295 → r ≡ numeral 10 cap s → r ≡ Some n → numeral 10 4294967295 s ≡ Some n
 read_as s cap n r e read was = ap (λ k. numeral 10 k s) (sym e) ∙ sym read ∙ was
 
-low : (c : goal.In-ok-watts) → c.in-ok-watts.watts ≤ 4294967295
-low c = numeral_le _ _ _ _ (read_as c.args.field.now _ _ _ c.from.ensures c.read-numeral.ensures c.in-ok-watts.was)
+low : (c : goal.In_ok-watts) → c.in_ok-watts.watts ≤ 4294967295
+low c = numeral_le _ _ _ _ (read_as c.args.field.now _ _ _ c.from.ensures c.read_numeral.ensures c.in_ok-watts.was)
 
-pub overflow-cast-result : goal.overflow-cast-result
-overflow-cast-result c = omega (arith, low c)
+pub overflow_cast-result : goal.overflow_cast-result
+overflow_cast-result c = omega (arith, low c)
 
-pub invariant-of-result : goal.invariant-of-result
-invariant-of-result c = (low c, tt)
+pub invariant_of-result : goal.invariant_of-result
+invariant_of-result c = (low c, tt)
 
 pub returns : goal.returns
 returns c =
     ap Some (same_watts _ _ (omega arith))
-    ∙ ap (option_map load) (sym (read_as c.args.field.now _ _ _ c.from.ensures c.read-numeral.ensures c.in-ok-watts.was))
+    ∙ ap (option_map load) (sym (read_as c.args.field.now _ _ _ c.from.ensures c.read_numeral.ensures c.in_ok-watts.was))

@@ -3,4 +3,4 @@ use Rattle.kinds.specs.Peaks.{same_peak, peak_product}
 use Rattle.kinds.proofs.peak.PeakFigure.times.Goals as goal
 
 pub returns-in-Load-other : goal.returns-in-Load-other
-returns-in-Load-other c = same_peak _ _ c.saturating-add.ensures ∙ sym (ap₂ peak_product c.in-Load.is c.in-Load-other.is)
+returns-in-Load-other c = same_peak _ _ c.saturating_add.ensures ∙ sym (ap₂ peak_product c.in-Load.is c.in-Load-other.is)

@@ -15,13 +15,13 @@ is_dash s r b h e = same_from_decides _ _ (bytes_eq-Decides _ _) (slice_eq-Decid
 pub returns-then-eq : goal.returns-then-eq
 returns-then-eq c = sym (cond-true _ _ _ (is_dash c.args.field.now _ _ c.eq.ensures c.if-eq.true))
 
-pub returns-in-err-load : goal.returns-in-err-load
-returns-in-err-load c =
-    c.from-residual.ensures
-    ∙ ap (option_map Load) (sym c.in-err-load.was ∙ c.read-load.ensures)
+pub returns-in_err-load : goal.returns-in_err-load
+returns-in_err-load c =
+    c.from_residual.ensures
+    ∙ ap (option_map Load) (sym c.in_err-load.was ∙ c.read_load.ensures)
     ∙ sym (cond-false _ _ _ (is_dash c.args.field.now _ _ c.eq.ensures c.if-eq.false))
 
 pub returns : goal.returns
 returns c =
-    ap (option_map Load) (sym c.in-ok-load.was ∙ c.read-load.ensures)
+    ap (option_map Load) (sym c.in_ok-load.was ∙ c.read_load.ensures)
     ∙ sym (cond-false _ _ _ (is_dash c.args.field.now _ _ c.eq.ensures c.if-eq.false))
