@@ -16,7 +16,7 @@ pub overflow_cast-result : goal.overflow_cast-result
 overflow_cast-result c = omega (arith, low c)
 
 pub invariant_of-result : goal.invariant_of-result
-invariant_of-result c = (low c, tt)
+invariant_of-result c = record { fits = low c }
 
 pub returns : goal.returns
 returns c =
