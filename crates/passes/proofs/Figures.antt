@@ -1,5 +1,6 @@
 -- The counting pass gives the selection's figure: the chances are set one after the other. Assumes nothing.
-use Rattle.std.proofs.Common.{◌≡◌, ℕ, ◌-◌, Bool, true, false, cond, not, ◌&&◌, ◌||◌, eqb, List, [], ◌∷◌, map, length, All, sym, refl, ap, ◌∙◌, subst, ap₂, inl, inr}
+use Rattle.std.specs.List.{AllByRecursion}
+use Rattle.std.proofs.Common.{◌≡◌, ℕ, ◌-◌, Bool, true, false, cond, not, ◌&&◌, ◌||◌, eqb, List, [], ◌∷◌, map, length, sym, refl, ap, ◌∙◌, subst, ap₂, inl, inr}
 use Rattle.std.proofs.lemmas.Bool.{both_ways, cases_Bool, cases_eq, cond-true, cond-false, eq-eqb, eqb-true, ne_eqb, or_from}
 use Rattle.kinds.specs.Semiring.{Semiring, Laws}
 use Rattle.kinds.proofs.Algebra.{sum_zero, product_one, product_zero}
@@ -17,7 +18,7 @@ use Rattle.passes.specs.Passes.{times, value_at, count, counts}
 use Rattle.passes.proofs.Made.{made, equal, made_related, made_same, upward_made, indicator, sums, count_way, count_made}
 use Rattle.passes.proofs.Splits.{Solves, Split, split_nodes}
 
-some_none : {A : Type 0} (p : A → Bool) (xs : List A) → All (λ x. p x ≡ false) xs → some p xs ≡ false
+some_none : {A : Type 0} (p : A → Bool) (xs : List A) → AllByRecursion (λ x. p x ≡ false) xs → some p xs ≡ false
 some_none p [] h = refl
 some_none p (x ∷ xs) h = or_from (p x) (some p xs) h.0 (some_none p xs h.1)
 
@@ -48,7 +49,7 @@ module _ {F : Type 0} {R : Semiring F} (laws : Laws R) where
   one_side c false = sym (ap₂ R.sum (product_zero laws (c true)) (product_one laws (c false)) ∙ laws.zero_sum (c false))
 
   -- a factor goes into a sum over settings that leave v as it is
-  over_scaled : (a : F) (v : ℕ) (vs : List ℕ) → All (λ x. eqb v x ≡ false) vs → (f g : World → F) (w : World)
+  over_scaled : (a : F) (v : ℕ) (vs : List ℕ) → AllByRecursion (λ x. eqb v x ≡ false) vs → (f g : World → F) (w : World)
       → ((u : World) → u v ≡ w v → R.product a (f u) ≡ g u) → R.product a (over R vs w f) ≡ over R vs w g
   unfolding over
   over_scaled a v [] apart f g w h = h w refl

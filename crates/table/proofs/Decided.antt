@@ -69,7 +69,7 @@ module _ (vs : List ℕ) (ms : List Vars) where
   decides_apart [] = (λ _ j k l h. absurd (not-suc-le-zero h), λ _. refl)
   decides_apart (c ∷ cs) =
       Decides-like (apart vs ms (c ∷ cs)) (apart_more c cs)
-      (λ h. (All-from_get_or _ cs 0 (λ k l. h 0 (suc k) (omega arith) (omega arith)), λ j k l m. h (suc j) (suc k) (omega arith) (omega arith)))
+      (λ h. (All-from_get_or (λ d. Disjoint vs (get_or ms c none) (get_or ms d none)) cs 0 (λ k l. h 0 (suc k) (omega arith) (omega arith)), λ j k l m. h (suc j) (suc k) (omega arith) (omega arith)))
       (Decides-and (every (λ d. disjoint vs (get_or ms c none) (get_or ms d none)) cs) (apart vs ms cs)
       (Decides-by_and _ _ (every (λ d. disjoint vs (get_or ms c none) (get_or ms d none))) (λ d. decides_disjoint vs (get_or ms c none) (get_or ms d none)) refl (λ _ _. refl) cs)
       (decides_apart cs))

@@ -1,7 +1,8 @@
 -- Elements of a list, and what tests of all or some of them decide. Assumes nothing.
-use Rattle.std.proofs.Common.{◌≡◌, Bool, true, false, ◌&&◌, ◌||◌, List, [], ◌∷◌, Decides, All, sym, refl, subst, ap₂, inl, inr}
+use Rattle.std.proofs.Common.{◌≡◌, Bool, true, false, ◌&&◌, ◌||◌, List, [], ◌∷◌, Decides, sym, refl, subst, ap₂, inl, inr}
+use Rattle.std.specs.List.{AllByRecursion}
 use Rattle.std.proofs.lemmas.Bool.{false≢true, or_left, or_right, or_cases}
-use Rattle.std.proofs.lemmas.Bool.Decides.{Decides-by_and, Decides-like}
+use Rattle.std.proofs.lemmas.Bool.Decides.{Decides-and, Decides-like}
 use Rattle.table.specs.Circuit.{every, some, same}
 use Rattle.table.specs.Facts.{Among}
 
@@ -11,19 +12,23 @@ decides_same false true = (λ e. e, λ e. e)
 decides_same false false = (λ _. refl, λ _. refl)
 
 module _ {A : Type 0} where
-  pub all_at : (P : A → Type 0) (xs : List A) → All P xs → (x : A) → Among x xs → P x
+  pub all_at : (P : A → Type 0) (xs : List A) → AllByRecursion P xs → (x : A) → Among x xs → P x
   all_at P [] h x m = absurd m
   all_at P (y ∷ ys) h x (inl e) = subst P e h.0
   all_at P (y ∷ ys) h x (inr m) = all_at P ys h.1 x m
 
-  pub all_among : (P : A → Type 0) (xs : List A) → ((x : A) → Among x xs → P x) → All P xs
+  pub all_among : (P : A → Type 0) (xs : List A) → ((x : A) → Among x xs → P x) → AllByRecursion P xs
   all_among P [] h = tt
   all_among P (y ∷ ys) h = (h y (inl refl), all_among P ys (λ x m. h x (inr m)))
+
+  decides_all : (p : A → Bool) (P : A → Type 0) → ((x : A) → Decides (p x) (P x)) → (xs : List A) → Decides (every p xs) (AllByRecursion P xs)
+  decides_all p P each [] = (λ _. tt, λ _. refl)
+  decides_all p P each (x ∷ xs) = Decides-and (p x) (every p xs) (each x) (decides_all p P each xs)
 
   pub decides_every : (p : A → Bool) (P : A → Type 0) → ((x : A) → Decides (p x) (P x)) → (xs : List A)
       → Decides (every p xs) ((x : A) → Among x xs → P x)
   decides_every p P each xs =
-      Decides-like (every p xs) (all_at P xs) (all_among P xs) (Decides-by_and p P (every p) each refl (λ _ _. refl) xs)
+      Decides-like (every p xs) (all_at P xs) (all_among P xs) (decides_all p P each xs)
 
   pub every_at : (p : A → Bool) (xs : List A) → every p xs ≡ true → (x : A) → Among x xs → p x ≡ true
   every_at p xs = (decides_every p (λ x. p x ≡ true) (λ x. (λ e. e, λ e. e)) xs).0

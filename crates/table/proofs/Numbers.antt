@@ -1,5 +1,6 @@
 -- Which numbers the options and the chances of a table have. Assumes nothing.
-use Rattle.std.proofs.Common.{◌≡◌, ℕ, zero, suc, ◌+◌, ◌-◌, ◌<◌, Bool, true, false, eqb, ◌⊎◌, List, [], ◌∷◌, length, get_or, All, sym, refl, ◌∙◌, inl, inr, ⊎_elim, not-suc-le-zero, arith}
+use Rattle.std.specs.List.{AllByRecursion}
+use Rattle.std.proofs.Common.{◌≡◌, ℕ, zero, suc, ◌+◌, ◌-◌, ◌<◌, Bool, true, false, eqb, ◌⊎◌, List, [], ◌∷◌, length, get_or, sym, refl, ◌∙◌, inl, inr, ⊎_elim, not-suc-le-zero, arith}
 use Rattle.std.proofs.lemmas.List.{get_or_past}
 use Rattle.std.proofs.lemmas.Bool.{both_ways, ne_eqb, cases_lt}
 use Rattle.table.specs.Sound.{Roles, is_option, from, chances}
@@ -73,9 +74,9 @@ option_known rs (suc k) e =
 -- no number stands in vs twice
 abbrev pub Distinct : List ℕ → Type 0
 Distinct [] = Unit {0}
-Distinct (v ∷ vs) = All (λ x. eqb v x ≡ false) vs × Distinct vs
+Distinct (v ∷ vs) = AllByRecursion (λ x. eqb v x ≡ false) vs × Distinct vs
 
-later : (i : ℕ) (b : Bool) (rs : Roles) → All (λ x. eqb i x ≡ false) (from (i + 1) b rs)
+later : (i : ℕ) (b : Bool) (rs : Roles) → AllByRecursion (λ x. eqb i x ≡ false) (from (i + 1) b rs)
 later i b rs = all_among _ (from (i + 1) b rs) (λ v m. let p = placed (i + 1) b rs v m in ne_eqb i v (omega arith))
 
 from_distinct : (rs : Roles) (i : ℕ) (b : Bool) → Distinct (from i b rs)

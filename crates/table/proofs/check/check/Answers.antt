@@ -8,9 +8,9 @@ returns c =
     let vs = c.args.variables.now in
     let ns = c.args.nodes.now in
     let cs = c.args.children.now in
-    let e = sym c.check-all.ensures in
+    let e = sym c.check_all.ensures in
     record {
-      answer = c.check-all.ensures;
+      answer = c.check_all.ensures;
       yes = subst (λ r. Decides (is_ok r) (Accepts vs ns cs)) e (yes_accepts vs ns cs);
       meaning = subst (λ r. is_ok r ≡ true → Means vs ns cs) e (yes_means vs ns cs);
     }

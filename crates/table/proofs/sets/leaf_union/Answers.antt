@@ -23,7 +23,7 @@ loop-c-preserved c =
     let i = c.loop-c.c-index in
     record {
       value =
-          ap (λ x. leaf_masks on (bit_or c.loop-c.seen x) nodes sets (drop (i + 1) cs)) c.leaf-set-seen.ensures
+          ap (λ x. leaf_masks on (bit_or c.loop-c.seen x) nodes sets (drop (i + 1) cs)) c.leaf_set-seen.ensures
           ∙ sym (at_drop_more (leaf_masks on c.loop-c.seen nodes sets) cs i 0 c.loop-c-test.true) ∙ c.loop-c.invariant.value;
       below = (every_here (under (length sets)) cs i 0 c.loop-c-test.true c.loop-c.invariant.below).1;
     }
