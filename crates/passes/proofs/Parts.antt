@@ -1,7 +1,7 @@
 -- A node's part in the pair pass, from those of its children. Assumes nothing.
-use Rattle.std.proofs.Common.{◌≡◌, ℕ, ◌-◌, Bool, true, false, cond, ◌&&◌, List, [], ◌∷◌, map, length, get_or, All, sym, refl, ap, ◌∙◌, subst, inl, inr}
+use Rattle.std.proofs.Common.{◌≡◌, ℕ, ◌-◌, Bool, true, false, cond, ◌&&◌, List, [], ◌∷◌, map, length, get_or, sym, refl, ap, ◌∙◌, subst, inl, inr}
 use lib.ListN.{get_or-map}
-use Rattle.std.proofs.lemmas.List.Elements.{All-map}
+use Rattle.std.specs.List.{AllByRecursion}
 use Rattle.std.proofs.lemmas.Bool.{and_from, cond-true}
 use Rattle.kinds.specs.Semiring.{Semiring, Laws, greater, lesser}
 use Rattle.kinds.proofs.Ranks.{Upto, upto_refl, upto_greater, greater_upto, lesser_upto, upto_lesser}
@@ -27,12 +27,17 @@ cond_same : {A : Type 0} (t : Bool) (x : A) → cond t x x ≡ x
 cond_same true x = refl
 cond_same false x = refl
 
+-- what holds of each image holds of each element of the list of images
+mapped : {A B : Type 0} (P : B → Type 0) (f : A → B) (xs : List A) → AllByRecursion (λ x. P (f x)) xs → AllByRecursion P (map f xs)
+mapped P f [] h = tt
+mapped P f (x ∷ xs) h = (h.0, mapped P f xs h.1)
+
 module _ {F : Type 0} {R : Semiring F} (laws : Laws R) where
   least_upto : (x : F) (ys : List F) → Upto R (least R x ys) x
   least_upto x [] = upto_refl laws x
   least_upto x (y ∷ ys) = laws.trans _ _ _ (least_upto (lesser R x y) ys) (lesser_upto laws x y)
 
-  upto_least : (c x : F) (ys : List F) → Upto R c x → All (Upto R c) ys → Upto R c (least R x ys)
+  upto_least : (c x : F) (ys : List F) → Upto R c x → AllByRecursion (Upto R c) ys → Upto R c (least R x ys)
   upto_least c x [] first rest = first
   upto_least c x (y ∷ ys) first rest = upto_least c (lesser R x y) ys (upto_lesser laws x y c first rest.0) rest.1
 
@@ -150,7 +155,7 @@ module _ {F : Type 0} (R : Semiring F) (rs : Roles) (sheet : List F) (ss : List 
     module _ (laws : Laws R) (c : F) where
       pub value_above : Upto R c (plain_here i) → ((v : ℕ) → Free-in rs ss h i v → (b : Bool) × Upto R c (side_here i b v)) → Upto R c (worth i)
       value_above plainly freely = by_value (Upto R c) plainly (λ v vs f.
-          upto_least laws c (either i v) (map (either i) vs) (each v (f v (inl refl))) (All-map _ (either i) vs (all_among _ vs (λ u m. each u (f u (inr m))))))
+          upto_least laws c (either i v) (map (either i) vs) (each v (f v (inl refl))) (mapped (Upto R c) (either i) vs (all_among _ vs (λ u m. each u (f u (inr m))))))
         where
           each : (v : ℕ) → Free-in rs ss h i v → Upto R c (either i v)
           each v f =

@@ -1,7 +1,7 @@
 -- A sum over one variable: where each literal's value is split over the variable's two settings, so is each node's.
 -- Assumes nothing.
 use Rattle.std.proofs.Common.{◌≡◌, ℕ, suc, ◌<◌, Bool, true, false, ◌||◌, eqb, List, [], ◌∷◌, map, length, get_or, sym, refl, ap, ◌∙◌, subst, ap₂, inl, inr, true≢false, arith}
-use Rattle.std.proofs.lemmas.List.Elements.{All-from_get_or}
+use Rattle.std.specs.List.{AllByRecursion}
 use Rattle.kinds.specs.Semiring.{Semiring, Laws}
 use Rattle.kinds.proofs.Algebra.{weigh_sum, weigh_left, weigh_right}
 use Rattle.table.specs.Circuit.{Shape, lit, all, fork, top, bottom, some, mention, mentions}
@@ -12,6 +12,11 @@ use Rattle.table.proofs.Truths.{about_at}
 use Rattle.table.proofs.Upward.{by_children}
 use Rattle.passes.specs.Passes.{times}
 use Rattle.passes.proofs.Made.{made, sums}
+
+-- what holds at each place of a list holds of each element
+from_places : {A : Type 0} (P : A → Type 0) (xs : List A) (d : A) → ((i : ℕ) → i < length xs → P (get_or xs i d)) → AllByRecursion P xs
+from_places P [] d h = tt
+from_places P (x ∷ xs) d h = (h 0 (omega arith), from_places P xs d (λ i l. h (suc i) (omega arith)))
 
 module _ {F : Type 0} (R : Semiring F) where
   -- x gives each node what the way that adds branches makes of it
@@ -56,7 +61,7 @@ module _ {F : Type 0} {R : Semiring F} (laws : Laws R) (c : Bool → F) where
         (λ here there.
         let other = some_at (λ e. about ss e v) cs there in
         all_at (λ e. about ss e v ≡ true → ⊥) cs
-        (All-from_get_or _ cs 0 (λ k l. apart 0 (suc k) (omega arith) (omega arith) here)) other.0 other.1 other.2)
+        (from_places (λ e. about ss e v ≡ true → ⊥) cs 0 (λ k l. apart 0 (suc k) (omega arith) (omega arith) here)) other.0 other.1 other.2)
         (x d) (times R (map x cs)) (λ b. y b d) (λ b. times R (map (y b) cs)) (h d (inl refl))
         (split_all cs (λ j k l m. apart (suc j) (suc k) (omega arith) (omega arith)) (λ e m. h e (inr m)))
 

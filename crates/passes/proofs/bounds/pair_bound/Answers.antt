@@ -19,16 +19,16 @@ use Rattle.passes.proofs.bounds.pair_bound.Goals.{After-options}
 wide : (g : given.Over) (c : After-options g) → 2 * c.options.result + 1 ≡ 2 * length (options (roles c.args.table.now)) + 1
 wide g c = ap (λ n. 2 * n + 1) (c.options.ensures ∙ sym (options_many c.args.table.now))
 
-pub value-of-requires : goal.value-of-requires
-value-of-requires g c =
+pub value_of-requires : goal.value_of-requires
+value_of-requires g c =
     let t = c.args.table.now in
     let stride = 2 * c.options.result + 1 in
     let n = length t.nodes.now in
     let same : n * stride ≡ length (circuit t) * (2 * length (options (roles t)) + 1) =
-    ap₂ (λ a b. a * b) (sym (node_count t)) (wide g (goal.at.value-of-requires g c).After-options) in
+    ap₂ (λ a b. a * b) (sym (node_count t)) (wide g (goal.at.value_of-requires g c).After-options) in
     record {
       wide = omega arith;
-      inside = le-leb _ _ (omega (arith, last_part n stride (some_node t), same, c.requires.room, c.pair-pass.auto.work));
+      inside = le-leb _ _ (omega (arith, last_part n stride (some_node t), same, c.requires.room, c.pair_pass.auto.work));
     }
 
 pub returns : goal.returns
@@ -41,8 +41,8 @@ returns g c =
     let sheet = c.args.sheet.now in
     let h = c.args.holds.now.entries in
     let good = proved_sound t in
-    let answer = c.value-of.ensures
-    ∙ root_part_in R rs sheet (2 * c.options.result + 1) (wide g (goal.at.returns g c).After-options) _ _ _ _ c.pair-pass.ensures
+    let answer = c.value_of.ensures
+    ∙ root_part_in R rs sheet (2 * c.options.result + 1) (wide g (goal.at.returns g c).After-options) _ _ _ _ c.pair_pass.ensures
     (upward_length (pair R rs sheet (mentions ss) h) ss ∙ node_count t) (some_node t) in
     record {
       answer = answer;
@@ -50,5 +50,5 @@ returns g c =
       tight = subst (λ r. R.upto r (plain_bound R rs sheet ss h) ≡ true) (sym answer) (tightens R laws rs ss sheet good h);
       meets = λ k. subst (λ r. R.upto r (figure R ss (chances rs) sheet (selected h)) ≡ true) (sym answer) (meets R laws rs ss sheet good h k);
       held = plain_where_held R rs ss sheet good;
-      work = c.pair-pass.ensures;
+      work = c.pair_pass.ensures;
     }

@@ -5,16 +5,16 @@ use Rattle.passes.specs.Passes.{plain}
 use Rattle.passes.proofs.Roots.{some_node, node_count, root_in}
 use Rattle.passes.proofs.bounds.plain_bound.Goals as goal
 
-pub last-of-requires : goal.last-of-requires
-last-of-requires g c =
+pub last_of-requires : goal.last_of-requires
+last_of-requires g c =
     let t = c.args.table.now in
-    (omega (arith, some_node t), omega (arith, node_count t, c.requires.room, c.plain-pass.auto.work))
+    (omega (arith, some_node t), omega (arith, node_count t, c.requires.room, c.plain_pass.auto.work))
 
 pub returns : goal.returns
 returns g c =
     let t = c.args.table.now in
     record {
-      answer = c.last-of.ensures
-          ∙ root_in _ _ _ _ _ c.plain-pass.ensures (upward_length (plain g.K.Figure.ring (roles t) c.args.sheet.now c.args.holds.now.entries) (circuit t) ∙ node_count t) (some_node t);
-      work = c.plain-pass.ensures;
+      answer = c.last_of.ensures
+          ∙ root_in _ _ _ _ _ c.plain_pass.ensures (upward_length (plain g.K.Figure.ring (roles t) c.args.sheet.now c.args.holds.now.entries) (circuit t) ∙ node_count t) (some_node t);
+      work = c.plain_pass.ensures;
     }

@@ -5,30 +5,30 @@ use Rattle.passes.specs.Steps.{count_in}
 use Rattle.passes.proofs.Reading.{and_is, and_reads, fork_is, fork_reads}
 use Rattle.passes.proofs.counting.node_count.Goals as goal
 
-pub product-of-requires : goal.product-of-requires
-product-of-requires g c = record {
+pub product_of-requires : goal.product_of-requires
+product_of-requires g c = record {
   wide = lit< tt;
   inside = and_reads c.args.table.now.children.now c.args.node c.requires.ranged (length (roles c.args.table.now)) (length c.args.done.now) 1 c.requires.readable c.in-And.is;
 }
 
-pub value-of-on-requires : goal.value-of-on-requires
-value-of-on-requires g c = record {
+pub value_of-on-requires : goal.value_of-on-requires
+value_of-on-requires g c = record {
   wide = lit< tt;
   inside = (fork_reads c.args.table.now.children.now c.args.node c.requires.ranged (length (roles c.args.table.now)) (length c.args.done.now) 1 c.requires.readable c.in-Fork.variable c.in-Fork.is).0;
 }
 
-pub value-of-off-requires : goal.value-of-off-requires
-value-of-off-requires g c = record {
+pub value_of-off-requires : goal.value_of-off-requires
+value_of-off-requires g c = record {
   wide = lit< tt;
   inside = (fork_reads c.args.table.now.children.now c.args.node c.requires.ranged (length (roles c.args.table.now)) (length c.args.done.now) 1 c.requires.readable c.in-Fork.variable c.in-Fork.is).1;
 }
 
 pub returns-in-And : goal.returns-in-And
 returns-in-And g c =
-    c.product-of.ensures
+    c.product_of.ensures
     ∙ sym (ap (count_in g.K.Figure.ring (roles c.args.table.now) c.args.sheet.now (selected c.args.holds.now.entries) 1 c.args.done.now) (and_is c.args.table.now.children.now c.args.node c.requires.ranged c.in-And.is))
 
 pub returns-in-Fork : goal.returns-in-Fork
 returns-in-Fork g c =
-    c.plus.ensures ∙ ap₂ g.K.Figure.ring.sum c.value-of-on.ensures c.value-of-off.ensures
+    c.plus.ensures ∙ ap₂ g.K.Figure.ring.sum c.value_of-on.ensures c.value_of-off.ensures
     ∙ sym (ap (count_in g.K.Figure.ring (roles c.args.table.now) c.args.sheet.now (selected c.args.holds.now.entries) 1 c.args.done.now) (fork_is c.args.table.now.children.now c.args.node c.requires.ranged c.in-Fork.variable c.in-Fork.is))

@@ -8,10 +8,10 @@ use Rattle.passes.proofs.Figures.{counts_figure}
 use Rattle.passes.proofs.Roots.{some_node, node_count, root_in}
 use Rattle.passes.proofs.figure.count_figure.Goals as goal
 
-pub last-of-requires : goal.last-of-requires
-last-of-requires g c =
+pub last_of-requires : goal.last_of-requires
+last_of-requires g c =
     let t = c.args.table.now in
-    (omega (arith, some_node t), omega (arith, node_count t, c.requires.room, c.count-pass.auto.work))
+    (omega (arith, some_node t), omega (arith, node_count t, c.requires.room, c.count_pass.auto.work))
 
 pub returns : goal.returns
 returns g c =
@@ -20,8 +20,8 @@ returns g c =
     let sheet = c.args.sheet.now in
     let w = selected c.args.holds.now.entries in
     record {
-      answer = c.last-of.ensures
-          ∙ root_in _ _ _ _ _ c.count-pass.ensures (upward_length (count R (roles t) sheet w) (circuit t) ∙ node_count t) (some_node t)
+      answer = c.last_of.ensures
+          ∙ root_in _ _ _ _ _ c.count_pass.ensures (upward_length (count R (roles t) sheet w) (circuit t) ∙ node_count t) (some_node t)
           ∙ counts_figure R g.K.Figure.laws (roles t) (circuit t) sheet (proved_sound t) w;
-      work = c.count-pass.ensures;
+      work = c.count_pass.ensures;
     }

@@ -7,14 +7,14 @@ use Rattle.passes.proofs.Lowest.{lowest_more}
 use Rattle.passes.proofs.Options.{listed_some}
 use Rattle.passes.proofs.pair.least_side.Goals as goal
 
-pub is-open-taken-requires : goal.is-open-taken-requires
-is-open-taken-requires g c = listed_some (roles c.args.table.now) c.args.options.now c.requires.listed c.loop-j.j c.loop-j-test.true
+pub is_open-taken-requires : goal.is_open-taken-requires
+is_open-taken-requires g c = listed_some (roles c.args.table.now) c.args.options.now c.requires.listed c.loop-j.j c.loop-j-test.true
 
 pub loop-j-preserved : goal.loop-j-preserved
 loop-j-preserved g c =
     lowest_more g.K.Figure.ring (open_at c.args.holds.now.entries (about (circuit c.args.table.now) c.args.node)) c.args.row.now
-    c.loop-j.best c.lowered-best.result _ c.loop-j.j c.args.options.now c.is-open-taken.result c.index-row-j.result c.index-row-j-in-loop-j.result
-    c.loop-j-test.true c.requires.row c.is-open-taken.ensures c.index-row-j.is c.index-row-j-in-loop-j.is c.lowered-best.ensures c.loop-j.invariant
+    c.loop-j.best c.lowered-best.result _ c.loop-j.j c.args.options.now c.is_open-taken.result c.index-row-j.result c.index-row-j-in-loop-j.result
+    c.loop-j-test.true c.requires.row c.is_open-taken.ensures c.index-row-j.is c.index-row-j-in-loop-j.is c.lowered-best.ensures c.loop-j.invariant
 
 pub returns : goal.returns
 returns g c =

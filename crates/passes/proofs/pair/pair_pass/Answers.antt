@@ -6,33 +6,33 @@ use Rattle.table.proofs.Asked.{variables_few}
 use Rattle.passes.specs.Passes.{work, pairs}
 use Rattle.passes.proofs.pair.pair_pass.Goals as goal
 
-pub list-options-count-requires : goal.list-options-count-requires
-list-options-count-requires g c = variables_few c.args.table.now
+pub list_options-count-requires : goal.list_options-count-requires
+list_options-count-requires g c = variables_few c.args.table.now
 
-pub slice-bounds-write-parts-end : goal.slice-bounds-write-parts-end
-slice-bounds-write-parts-end g c =
+pub slice_bounds-write_parts-end : goal.slice_bounds-write_parts-end
+slice_bounds-write_parts-end g c =
     let few : length (roles c.args.table.now) ≤ 64 = variables_few c.args.table.now in
-    let h : c.list-options-count.result ≤ 64 = omega (arith, c.list-options-count.ensures.few) in
+    let h : c.list_options-count.result ≤ 64 = omega (arith, c.list_options-count.ensures.few) in
     search rules
 
-pub write-parts-requires : goal.write-parts-requires
-write-parts-requires g c =
+pub write_parts-requires : goal.write_parts-requires
+write_parts-requires g c =
     let t = c.args.table.now in
-    let n : ℕ = c.list-options-count.result in
+    let n : ℕ = c.list_options-count.result in
     let z : n - 0 ≡ n = omega arith in
-    let listed : take (n - 0) c.list-options-count.new.out ≡ options (roles t) = ap (λ k. take k c.list-options-count.new.out) z ∙ c.list-options-count.ensures.listed in
+    let listed : take (n - 0) c.list_options-count.new.out ≡ options (roles t) = ap (λ k. take k c.list_options-count.new.out) z ∙ c.list_options-count.ensures.listed in
     record {
       sheet = c.requires.sheet;
       listed = listed;
-      few = omega (arith, length-take (n - 0) c.list-options-count.new.out, c.list-options-count.ensures.few, variables_few t);
+      few = omega (arith, length-take (n - 0) c.list_options-count.new.out, c.list_options-count.ensures.few, variables_few t);
       room = let Fit : List ℕ → Type 0 = λ vs. length (circuit t) * (2 * length vs + 1) ≤ length c.args.work.now in subst Fit (sym listed) c.requires.room;
     }
 
 pub returns : goal.returns
 returns g c =
     let t = c.args.table.now in
-    let n : ℕ = c.list-options-count.result in
+    let n : ℕ = c.list_options-count.result in
     let z : n - 0 ≡ n = omega arith in
-    let listed : take (n - 0) c.list-options-count.new.out ≡ options (roles t) = ap (λ k. take k c.list-options-count.new.out) z ∙ c.list-options-count.ensures.listed in
-    c.write-parts.ensures
+    let listed : take (n - 0) c.list_options-count.new.out ≡ options (roles t) = ap (λ k. take k c.list_options-count.new.out) z ∙ c.list_options-count.ensures.listed in
+    c.write_parts.ensures
     ∙ ap (λ vs. work g.K.Figure.ring (roles t) c.args.sheet.now (pairs g.K.Figure.ring (roles t) c.args.sheet.now (circuit t) c.args.holds.now.entries) ++ drop (length (circuit t) * (2 * length vs + 1)) c.args.work.now) listed

@@ -8,8 +8,8 @@ use Rattle.passes.specs.Steps.{plain_in}
 use Rattle.passes.proofs.Reading.{node_is, node_ranged, node_readable}
 use Rattle.passes.proofs.pair.part_value.Goals as goal
 
-pub node-plain-requires : goal.node-plain-requires
-node-plain-requires g c =
+pub node_plain-requires : goal.node_plain-requires
+node_plain-requires g c =
     let t = c.args.table.now in
     let i = c.args.node in
     let n = get_or t.nodes.now i blank in
@@ -27,5 +27,5 @@ returns-in-None g c =
     let i = c.args.node in
     let n = get_or t.nodes.now i blank in
     let plain = plain_in g.K.Figure.ring (roles t) c.args.sheet.now c.args.holds.now.entries c.args.stride c.args.done.now in
-    c.node-plain.ensures ∙ sym (ap plain (node_is t i c.requires.node n (get_or_default t.nodes.now i blank n c.requires.node)))
+    c.node_plain.ensures ∙ sym (ap plain (node_is t i c.requires.node n (get_or_default t.nodes.now i blank n c.requires.node)))
     ∙ ap (λ o. or_else o (plain (node (circuit t) i))) c.in-None.ensures

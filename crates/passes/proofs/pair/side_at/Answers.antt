@@ -20,11 +20,11 @@ side-requires g c =
       readable = node_readable t i c.requires.node n same c.args.stride _ (sym c.requires.done);
     }
 
-pub returns-then-is-open : goal.returns-then-is-open
-returns-then-is-open g c =
+pub returns-then-is_open : goal.returns-then-is_open
+returns-then-is_open g c =
     let t = c.args.table.now in
     let i = c.args.node in
     let n = get_or t.nodes.now i blank in
     c.side.ensures
     ∙ sym (ap (λ s. side_in g.K.Figure.ring (mentions (circuit t)) c.args.stride c.args.done.now (roles t) s c.args.on c.args.variable c.args.place) (node_is t i c.requires.node n (get_or_default t.nodes.now i blank n c.requires.node)))
-    ∙ sym (cond-true _ _ _ (sym c.is-open.ensures ∙ c.if-is-open.true))
+    ∙ sym (cond-true _ _ _ (sym c.is_open.ensures ∙ c.if-is_open.true))

@@ -20,8 +20,8 @@ loop-i-init g c =
       many = sym (length-map t.nodes.now (shape t.children.now));
     }
 
-pub write-part-requires : goal.write-part-requires
-write-part-requires g c =
+pub write_part-requires : goal.write_part-requires
+write_part-requires g c =
     let t = c.args.table.now in
     let i : ℕ = c.loop-i.i in
     let stride : ℕ = 2 * length c.args.options.now + 1 in
@@ -42,10 +42,10 @@ loop-i-preserved g c =
     let stride : ℕ = 2 * length c.args.options.now + 1 in
     let inside : i < length (circuit t) = omega (arith, c.loop-i.invariant.many) in
     record {
-      parts = c.write-part.ensures
+      parts = c.write_part.ensures
           ∙ parts_more g.K.Figure.ring (roles t) c.args.sheet.now c.args.holds.now.entries (circuit t) c.args.work.now stride (ap (λ vs. 2 * length vs + 1) c.requires.listed)
           (sound_proper (roles t) (circuit t) (proved_sound t)).ordered i inside c.loop-i.work c.loop-i.invariant.parts c.args.options.now c.requires.listed;
-      long = c.write-part.auto.work ∙ c.loop-i.invariant.long;
+      long = c.write_part.auto.work ∙ c.loop-i.invariant.long;
       many = c.loop-i.invariant.many;
     }
 

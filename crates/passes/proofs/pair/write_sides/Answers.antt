@@ -10,16 +10,16 @@ use Rattle.passes.proofs.pair.write_sides.Goals as goal
 pub loop-j-init : goal.loop-j-init
 loop-j-init g c = record { row = sym (over_none c.args.work.now (c.args.node * c.args.stride + 1) (omega arith)); long = refl }
 
-pub side-at-on-requires : goal.side-at-on-requires
-side-at-on-requires g c = record {
+pub side_at-on-requires : goal.side_at-on-requires
+side_at-on-requires g c = record {
   place = omega arith;
   variable = listed_some (roles c.args.table.now) c.args.options.now c.requires.listed c.loop-j.j c.loop-j-test.true;
   node = c.requires.node;
   done = front_length c.loop-j.work (c.args.node * c.args.stride) (omega (arith, c.loop-j.invariant.long));
 }
 
-pub side-at-off-requires : goal.side-at-off-requires
-side-at-off-requires g c = record {
+pub side_at-off-requires : goal.side_at-off-requires
+side_at-off-requires g c = record {
   place = omega arith;
   variable = listed_some (roles c.args.table.now) c.args.options.now c.requires.listed c.loop-j.j c.loop-j-test.true;
   node = c.requires.node;
@@ -33,8 +33,8 @@ loop-j-preserved g c =
     let j : ℕ = c.loop-j.j in
     record {
       row = row_more (λ done. side_or_zero g.K.Figure.ring (mentions (circuit t)) c.args.stride done (roles t) c.args.holds.now.entries (circuit t) c.args.node)
-          c.args.work.now base c.args.options.now j (omega arith) c.loop-j-test.true c.loop-j.work c.side-at-on.result c.side-at-off.result _ _ c.loop-j.invariant.row (omega arith) (omega arith)
-          c.side-at-on.ensures c.side-at-off.ensures;
+          c.args.work.now base c.args.options.now j (omega arith) c.loop-j-test.true c.loop-j.work c.side_at-on.result c.side_at-off.result _ _ c.loop-j.invariant.row (omega arith) (omega arith)
+          c.side_at-on.ensures c.side_at-off.ensures;
       long = length-set _ _ _ ∙ length-set _ _ _ ∙ c.loop-j.invariant.long;
     }
 

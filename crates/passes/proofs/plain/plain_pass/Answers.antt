@@ -15,8 +15,8 @@ unfolding onward
 loop-i-init g c = let t = c.args.table.now in
     record { values = refl; long = refl; many = sym (length-map t.nodes.now (shape t.children.now)) }
 
-pub node-plain-value-requires : goal.node-plain-value-requires
-node-plain-value-requires g c =
+pub node_plain-value-requires : goal.node_plain-value-requires
+node_plain-value-requires g c =
     let t = c.args.table.now in
     let i : ℕ = c.loop-i.i in
     let n = get_or t.nodes.now i blank in
@@ -38,8 +38,8 @@ loop-i-preserved g c =
     let R = g.K.Figure.ring in
     let step = plain R (roles t) c.args.sheet.now c.args.holds.now.entries in
     let done = take (i - 0) c.loop-i.work in
-    passed_more step (circuit t) c.args.work.now (length t.nodes.now) i c.loop-i.work c.node-plain-value.result c.loop-i.invariant h c.requires.room
-    (c.node-plain-value.ensures ∙ plain_one R done (roles t) c.args.sheet.now c.args.holds.now.entries (shape t.children.now n)
+    passed_more step (circuit t) c.args.work.now (length t.nodes.now) i c.loop-i.work c.node_plain-value.result c.loop-i.invariant h c.requires.room
+    (c.node_plain-value.ensures ∙ plain_one R done (roles t) c.args.sheet.now c.args.holds.now.entries (shape t.children.now n)
     ∙ sym (ap (step done) (node_is t i h n (get_or_default t.nodes.now i blank n h))))
 
 pub returns : goal.returns

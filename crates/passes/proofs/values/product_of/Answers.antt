@@ -10,8 +10,8 @@ loop-c-init g c = record {
   below = c.requires.inside;
 }
 
-pub value-of-requires : goal.value-of-requires
-value-of-requires g c = record {
+pub value_of-requires : goal.value_of-requires
+value_of-requires g c = record {
   wide = c.requires.wide;
   inside = (every_here (inside (length c.args.done.now) c.args.stride) c.args.children.now c.loop-c.c-index 0 c.loop-c-test.true c.loop-c.invariant.below).0;
 }
@@ -19,7 +19,7 @@ value-of-requires g c = record {
 pub loop-c-preserved : goal.loop-c-preserved
 loop-c-preserved g c = record {
   value = product_more g.K.Figure.laws (value_in g.K.Figure.ring c.args.stride c.args.done.now) c.args.children.now c.loop-c.c-index c.loop-c.all
-      c.value-of.result c.times-all.result _ c.loop-c-test.true c.value-of.ensures c.times-all.ensures c.loop-c.invariant.value;
+      c.value_of.result c.times-all.result _ c.loop-c-test.true c.value_of.ensures c.times-all.ensures c.loop-c.invariant.value;
   below = (every_here (inside (length c.args.done.now) c.args.stride) c.args.children.now c.loop-c.c-index 0 c.loop-c-test.true c.loop-c.invariant.below).1;
 }
 
