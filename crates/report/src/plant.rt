@@ -43,7 +43,7 @@ pub fn plant_report<K: Written, O: BranchingOrder<K>>(
     order: &O,
     file: &[u8],
 ) -> Result<String, AllocError>
-    ensures { IfOk result (λ s. string_bytes s ≡ text_of (plant_report K.ring K.text (picks order.now) K.reading file.now)) }
+    ensures { IfOk result (λ s. string_bytes s ≡ text_of (plant_report K.ring K.text (O.picks order.now) K.reading file.now)) }
 {
     let unused = Node {
         form: Form::False,
@@ -96,7 +96,7 @@ fn checked_report<K: Written, O: BranchingOrder<K>>(
     variables: &Variables,
     weights: &[u8],
 ) -> Result<String, AllocError>
-    ensures { IfOk result (λ s. PlainNames (listed variables.now) → string_bytes s ≡ text_of (checked K.ring K.text (picks order.now) K.reading variables.now nodes.now children.now weights.now)) }
+    ensures { IfOk result (λ s. PlainNames (listed variables.now) → string_bytes s ≡ text_of (checked K.ring K.text (O.picks order.now) K.reading variables.now nodes.now children.now weights.now)) }
 {
     match check(nodes, children, variables) {
         Ok(mentions) => table_report::<K, O>(
@@ -117,7 +117,7 @@ fn table_report<'a, K: Written, O: BranchingOrder<K>>(
     weights: &[u8],
 ) -> Result<String, AllocError>
     requires { check_says variables nodes.now children.now ≡ Ok mentions }
-    ensures { IfOk result (λ s. PlainNames (listed variables) → string_bytes s ≡ text_of (checked K.ring K.text (picks order.now) K.reading variables nodes.now children.now weights.now)) }
+    ensures { IfOk result (λ s. PlainNames (listed variables) → string_bytes s ≡ text_of (checked K.ring K.text (O.picks order.now) K.reading variables nodes.now children.now weights.now)) }
 {
     let mut figures = zeros::<K>(heap, SHEET_ROOM)?;
     let mut work = zeros::<K>(heap, WORK_ROOM)?;
@@ -145,7 +145,7 @@ fn weighed_report<K: Written, O: BranchingOrder<K>>(
     work: &mut [K],
     weights: &[u8],
 ) -> Result<String, AllocError>
-    ensures { IfOk result (λ s. PlainNames (listed table.now.variables) → string_bytes s ≡ text_of (weighed K.ring K.text (picks order.now) K.reading (length work.old) table.now.variables (circuit table.now) figures.old weights.now)) }
+    ensures { IfOk result (λ s. PlainNames (listed table.now.variables) → string_bytes s ≡ text_of (weighed K.ring K.text (O.picks order.now) K.reading (length work.old) table.now.variables (circuit table.now) figures.old weights.now)) }
 {
     let mut sheet = Sheet { figures };
     match read_weights(table, &mut sheet, weights) {
@@ -162,7 +162,7 @@ fn asked_report<K: Written, O: BranchingOrder<K>>(
     sheet: &Sheet<K>,
     work: &mut [K],
 ) -> Result<String, AllocError>
-    ensures { IfOk result (λ s. PlainNames (listed table.now.variables) → string_bytes s ≡ text_of (asked K.ring K.text (picks order.now) (length work.old) table.now.variables (circuit table.now) sheet.now.figures.now)) }
+    ensures { IfOk result (λ s. PlainNames (listed table.now.variables) → string_bytes s ≡ text_of (asked K.ring K.text (O.picks order.now) (length work.old) table.now.variables (circuit table.now) sheet.now.figures.now)) }
 {
     let holds = Holds::new();
     let most = match bound(table, &holds, sheet, work) {

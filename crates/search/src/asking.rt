@@ -73,8 +73,8 @@ pub fn select<K: Figure, O: BranchingOrder<K>>(
     work: &mut [K],
     order: &O,
 ) -> Result<Found<K>, Fault>
-    ensures answer { result ≡ answered (bound_refusals table.now holds.now sheet.now work.old) (select_of K.ring (picks order.now) (roles table.now) (circuit table.now) sheet.now.figures.now holds.now.entries) }
-    ensures best { length (roles table.now) ≤ length holds.now.entries → Answers K.ring (roles table.now) (circuit table.now) sheet.now.figures.now holds.now.entries (select_of K.ring (picks order.now) (roles table.now) (circuit table.now) sheet.now.figures.now holds.now.entries).best }
+    ensures answer { result ≡ answered (bound_refusals table.now holds.now sheet.now work.old) (select_of K.ring (O.picks order.now) (roles table.now) (circuit table.now) sheet.now.figures.now holds.now.entries) }
+    ensures best { length (roles table.now) ≤ length holds.now.entries → Answers K.ring (roles table.now) (circuit table.now) sheet.now.figures.now holds.now.entries (select_of K.ring (O.picks order.now) (roles table.now) (circuit table.now) sheet.now.figures.now holds.now.entries).best }
     ensures behind { drop (places table.now) work.new ≡ drop (places table.now) work.old }
     ensures refused { is_ok result ≡ false → work.new ≡ work.old }
 {

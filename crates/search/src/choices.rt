@@ -71,7 +71,7 @@ pub(crate) fn next_option<K: Figure, O: BranchingOrder<K>>(
     part: &[K],
 ) -> u16
     requires { length part.now ≡ 2 * length (options (roles table.now)) + 1 }
-    ensures { result ≡ gate levels (named (picks order.now) (told K.ring part.now (choices_of (roles table.now) (circuit table.now) holds.now.entries))) }
+    ensures { result ≡ gate levels (named (O.picks order.now) (told K.ring part.now (choices_of (roles table.now) (circuit table.now) holds.now.entries))) }
 {
     if levels == 0 {
         return 0;

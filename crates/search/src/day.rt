@@ -55,7 +55,7 @@ pub fn ask<K: Figure, O: BranchingOrder<K>>(
     work: &mut [K],
     call: Call<K>,
 ) -> Answer<K>
-    ensures answer { result ≡ answer K.ring (picks order.now) (roles table.now) (circuit table.now) (length work.old) (book_of holds.old sheet.old.figures.now) call }
+    ensures answer { result ≡ answer K.ring (O.picks order.now) (roles table.now) (circuit table.now) (length work.old) (book_of holds.old sheet.old.figures.now) call }
     ensures holds { holds.new.entries ≡ (after (roles table.now) (circuit table.now) (length work.old) (book_of holds.old sheet.old.figures.now) call).holds }
     ensures work { drop (places table.now) work.new ≡ drop (places table.now) work.old }
     ensures same { sheet.new.figures.ghost_name ≡ sheet.old.figures.ghost_name }
@@ -82,9 +82,9 @@ pub fn work_day<K: Figure, O: BranchingOrder<K>>(
     calls: &[Call<K>],
     answers: &mut [Answer<K>],
 ) -> Holds
-    ensures day { Day K.ring (picks order.now) (roles table.now) (circuit table.now) (length work.old) (new sheet.old.figures.now) (take (length answers.old) calls.now) (take (length calls.now) answers.new) (book_of result sheet.new.figures.now) }
-    ensures only { DaysAgree K.ring (picks order.now) (roles table.now) (circuit table.now) (length work.old) }
-    ensures own { NoStrays K.ring (picks order.now) (roles table.now) (circuit table.now) (length work.old) }
+    ensures day { Day K.ring (O.picks order.now) (roles table.now) (circuit table.now) (length work.old) (new sheet.old.figures.now) (take (length answers.old) calls.now) (take (length calls.now) answers.new) (book_of result sheet.new.figures.now) }
+    ensures only { DaysAgree K.ring (O.picks order.now) (roles table.now) (circuit table.now) (length work.old) }
+    ensures own { NoStrays K.ring (O.picks order.now) (roles table.now) (circuit table.now) (length work.old) }
     ensures behind { drop (length calls.now) answers.new ≡ drop (length calls.now) answers.old }
     ensures work { drop (places table.now) work.new ≡ drop (places table.now) work.old }
     ensures same { sheet.new.figures.ghost_name ≡ sheet.old.figures.ghost_name }
@@ -101,8 +101,8 @@ fn run_day<K: Figure, O: BranchingOrder<K>>(
     calls: &[Call<K>],
     answers: &mut [Answer<K>],
 ) -> Holds
-    ensures answers { answers.new ≡ answers_of K.ring (picks order.now) (roles table.now) (circuit table.now) (length work.old) (new sheet.old.figures.now) (take (length answers.old) calls.now) ++ drop (length calls.now) answers.old }
-    ensures book { book_of result sheet.new.figures.now ≡ book_after K.ring (picks order.now) (roles table.now) (circuit table.now) (length work.old) (new sheet.old.figures.now) (take (length answers.old) calls.now) }
+    ensures answers { answers.new ≡ answers_of K.ring (O.picks order.now) (roles table.now) (circuit table.now) (length work.old) (new sheet.old.figures.now) (take (length answers.old) calls.now) ++ drop (length calls.now) answers.old }
+    ensures book { book_of result sheet.new.figures.now ≡ book_after K.ring (O.picks order.now) (roles table.now) (circuit table.now) (length work.old) (new sheet.old.figures.now) (take (length answers.old) calls.now) }
     ensures work { drop (places table.now) work.new ≡ drop (places table.now) work.old }
     ensures same { sheet.new.figures.ghost_name ≡ sheet.old.figures.ghost_name }
 {

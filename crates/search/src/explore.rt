@@ -75,8 +75,8 @@ fn open<K: Figure, O: BranchingOrder<K>>(
     requires room { length (circuit table.now) * (2 * length (options (roles table.now)) + 1) ≤ length work.old }
     requires sheet { 2 * length (roles table.now) ≤ length sheet.now }
     requires few { found.old.openings < 2 ^ 63 }
-    ensures option { result ≡ (turn K.ring (of_table K.ring (picks order.now) (roles table.now) (circuit table.now) sheet.now) levels holds.now.entries found.old).0 }
-    ensures found { found.new ≡ (turn K.ring (of_table K.ring (picks order.now) (roles table.now) (circuit table.now) sheet.now) levels holds.now.entries found.old).1 }
+    ensures option { result ≡ (turn K.ring (of_table K.ring (O.picks order.now) (roles table.now) (circuit table.now) sheet.now) levels holds.now.entries found.old).0 }
+    ensures found { found.new ≡ (turn K.ring (of_table K.ring (O.picks order.now) (roles table.now) (circuit table.now) sheet.now) levels holds.now.entries found.old).1 }
     ensures work { drop (length (circuit table.now) * (2 * length (options (roles table.now)) + 1)) work.new ≡ drop (length (circuit table.now) * (2 * length (options (roles table.now)) + 1)) work.old }
 {
     let bound = pair_bound(table, sheet, holds, work);
@@ -107,7 +107,7 @@ pub(crate) fn explore<K: Figure, O: BranchingOrder<K>>(
 ) -> Found<K>
     requires room { length (circuit table.now) * (2 * length (options (roles table.now)) + 1) ≤ length work.old }
     requires sheet { 2 * length (roles table.now) ≤ length sheet.now }
-    ensures found { result ≡ select K.ring (picks order.now) (roles table.now) (circuit table.now) sheet.now holds.now.entries }
+    ensures found { result ≡ select K.ring (O.picks order.now) (roles table.now) (circuit table.now) sheet.now holds.now.entries }
     ensures work { drop (length (circuit table.now) * (2 * length (options (roles table.now)) + 1)) work.new ≡ drop (length (circuit table.now) * (2 * length (options (roles table.now)) + 1)) work.old }
 {
     let levels = table.variables.options();

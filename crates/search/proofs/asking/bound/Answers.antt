@@ -17,7 +17,7 @@ returns-in-None g c =
     let t = c.args.table.now in
     record {
       answer = search rules;
-      behind = parts_kept g.K.Figure.ring (roles t) (circuit t) c.args.sheet.now.figures.now c.args.holds.now.entries c.pair-bound.new.work c.args.work.now c.pair-bound.ensures.work;
+      behind = parts_kept g.K.Figure.ring (roles t) (circuit t) c.args.sheet.now.figures.now c.args.holds.now.entries c.pair_bound.new.work c.args.work.now c.pair_bound.ensures.work;
       bounded = bounded g.K.Figure.ring g.K.Figure.laws t c.args.holds.now.entries c.args.sheet.now.figures.now;
       work = search rules;
     }

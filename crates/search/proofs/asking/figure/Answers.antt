@@ -9,6 +9,6 @@ returns-in-None g c =
     let t = c.args.table.now in
     record {
       answer = search rules;
-      behind = counts_kept g.K.Figure.ring (roles t) (circuit t) c.args.sheet.now.figures.now (selected c.args.holds.now.entries) c.count-figure.new.work c.args.work.now c.count-figure.ensures.work;
+      behind = counts_kept g.K.Figure.ring (roles t) (circuit t) c.args.sheet.now.figures.now (selected c.args.holds.now.entries) c.count_figure.new.work c.args.work.now c.count_figure.ensures.work;
       work = search rules;
     }

@@ -16,7 +16,7 @@ returns-in-Free c =
     let v : ℕ = c.args.variable in
     let front : List Choice = take c.args.count c.args.out.now in
     let is_open : is_free (entry h v) ≡ true = ap is_free (sym (entry_read h v c.requires.variable) ∙ sym c.in-Free.ensures) in
-    let mentioned = c.does-mention-mentioned.ensures ∙ ap (λ n. about (circuit t) (n - 1) v) (sym (node_count t)) in
+    let mentioned = c.does_mention-mentioned.ensures ∙ ap (λ n. about (circuit t) (n - 1) v) (sym (node_count t)) in
     record {
       listed = take_more_set c.args.out.now c.args.count _ c.requires.count
           ∙ ap (λ (b : Bool). front ++ (record { option = v; mentioned = b; place = 2 * c.args.index + 1 } ∷ [])) mentioned

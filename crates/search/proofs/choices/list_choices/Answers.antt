@@ -6,22 +6,22 @@ use Rattle.search.specs.declared.choice.Choice.{Choice}
 use Rattle.search.specs.Listing.{root_mentions}
 use Rattle.search.proofs.Listing.{Listing, list_option, list_chance, list_all}
 use Rattle.search.proofs.choices.list_choices.Goals as goal
-use Rattle.search.proofs.choices.list_choices.Goals.{then-has-option, else-has-option}
+use Rattle.search.proofs.choices.list_choices.Goals.{then-has_option, else-has_option}
 
-pub overflow-cast-variable : goal.overflow-cast-variable
-overflow-cast-variable c =
+pub overflow_cast-variable : goal.overflow_cast-variable
+overflow_cast-variable c =
     let t = c.args.table.now in
-    omega (arith, ap length c.as-slice-i-end.ensures, variables_long t, variables_few t)
+    omega (arith, ap length c.as_slice-i-end.ensures, variables_long t, variables_few t)
 
-pub overflow-add-variable : goal.overflow-add-variable
-overflow-add-variable c =
+pub overflow_add-variable : goal.overflow_add-variable
+overflow_add-variable c =
     let t = c.args.table.now in
-    omega (arith, ap length c.as-slice-i-end.ensures, variables_long t, variables_few t)
+    omega (arith, ap length c.as_slice-i-end.ensures, variables_long t, variables_few t)
 
-pub list-choice-count-requires : goal.list-choice-count-requires
-list-choice-count-requires c =
+pub list_choice-count-requires : goal.list_choice-count-requires
+list_choice-count-requires c =
     let t = c.args.table.now in
-    let short : c.loop-i.i < length (roles t) = omega (arith, ap length c.as-slice-i-end.ensures, variables_long t) in
+    let short : c.loop-i.i < length (roles t) = omega (arith, ap length c.as_slice-i-end.ensures, variables_long t) in
     let fewer : c.loop-i.count ≤ c.loop-i.index = c.loop-i.invariant.fewer in
     let few : c.loop-i.index ≤ c.loop-i.i = c.loop-i.invariant.few in
     record {
@@ -36,16 +36,16 @@ loop-i-preserved c =
     let m = root_mentions (circuit t) in
     let h = c.args.holds.now.entries in
     let i : ℕ = c.loop-i.i in
-    let short : i < length (roles t) = omega (arith, ap length c.as-slice-i-end.ensures, variables_long t) in
+    let short : i < length (roles t) = omega (arith, ap length c.as_slice-i-end.ensures, variables_long t) in
     let Kept = λ (out : List Choice) (n j : ℕ). Listing m h (roles t) c.args.out.now out n j (i + 1) in
-    elim c.if-has-option.branch [
-      | then-has-option w ↦ subst₃ Kept (sym w.out-is) (sym w.count_is) (sym w.index-is)
+    elim c.if-has_option.branch [
+      | then-has_option w ↦ subst₃ Kept (sym w.out-is) (sym w.count-is) (sym w.index-is)
           (list_option m h (roles t) c.args.out.now c.loop-i.out c.loop-i.count c.loop-i.index i c.loop-i.invariant
-          w.list-choice-count.new.out w.list-choice-count.result short (sym c.has-option.ensures ∙ w.if-has-option.true)
-          w.list-choice-count.ensures.listed w.list-choice-count.ensures.few w.list-choice-count.auto.out)
-      | else-has-option w ↦ subst₃ Kept (sym w.out-is) (sym w.count_is) (sym w.index-is)
+          w.list_choice-count.new.out w.list_choice-count.result short (sym c.has_option.ensures ∙ w.if-has_option.true)
+          w.list_choice-count.ensures.listed w.list_choice-count.ensures.few w.list_choice-count.auto.out)
+      | else-has_option w ↦ subst₃ Kept (sym w.out-is) (sym w.count-is) (sym w.index-is)
           (list_chance m h (roles t) c.args.out.now c.loop-i.out c.loop-i.count c.loop-i.index i c.loop-i.invariant
-          short (sym c.has-option.ensures ∙ w.if-has-option.false))
+          short (sym c.has_option.ensures ∙ w.if-has_option.false))
     ]
 
 pub returns : goal.returns
@@ -55,6 +55,6 @@ returns c =
     let few : c.loop-i.index ≤ c.loop-i.i = c.loop-i.invariant.few in
     record {
       listed = list_all (root_mentions (circuit t)) c.args.holds.now.entries (roles t) c.args.out.now c.loop-i.out c.loop-i.count c.loop-i.index c.loop-i.i c.loop-i.invariant
-          (omega (arith, ap length c.as-slice-i-end.ensures, variables_long t));
-      few = omega (arith, ap length c.as-slice-i-end.ensures, variables_long t, c.loop-i.auto.i-end);
+          (omega (arith, ap length c.as_slice-i-end.ensures, variables_long t));
+      few = omega (arith, ap length c.as_slice-i-end.ensures, variables_long t, c.loop-i.auto.i-end);
     }

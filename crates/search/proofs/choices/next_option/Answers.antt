@@ -12,35 +12,35 @@ use Rattle.search.proofs.Told.{choices_free, choices_placed, told_some}
 use Rattle.search.proofs.Turns.{gate_some}
 use Rattle.search.proofs.choices.next_option.Given as given
 use Rattle.search.proofs.choices.next_option.Goals as goal
-use Rattle.search.proofs.choices.next_option.Goals.{After-list-choices-count}
+use Rattle.search.proofs.choices.next_option.Goals.{After-list_choices-count}
 
 -- the choices that are listed
-listed : (g : given.Over) (c : After-list-choices-count g) → take (c.list-choices-count.result - 0) c.list-choices-count.new.out ≡ choices (roles c.args.table.now) (circuit c.args.table.now) c.args.holds.now.entries
+listed : (g : given.Over) (c : After-list_choices-count g) → take (c.list_choices-count.result - 0) c.list_choices-count.new.out ≡ choices (roles c.args.table.now) (circuit c.args.table.now) c.args.holds.now.entries
 listed g c =
-    let n : ℕ = c.list-choices-count.result in
+    let n : ℕ = c.list_choices-count.result in
     let z : n - 0 ≡ n = omega arith in
-    ap (λ k. take k c.list-choices-count.new.out) z ∙ c.list-choices-count.ensures.listed
+    ap (λ k. take k c.list_choices-count.new.out) z ∙ c.list_choices-count.ensures.listed
 
-pub list-choices-count-requires : goal.list-choices-count-requires
-list-choices-count-requires g c = variables_few c.args.table.now
+pub list_choices-count-requires : goal.list_choices-count-requires
+list_choices-count-requires g c = variables_few c.args.table.now
 
-pub slice-bounds-pick-end : goal.slice-bounds-pick-end
-slice-bounds-pick-end g c =
-    let short : c.list-choices-count.result ≤ 64 = omega (arith, c.list-choices-count.ensures.few, variables_few c.args.table.now) in
+pub slice_bounds-pick-end : goal.slice_bounds-pick-end
+slice_bounds-pick-end g c =
+    let short : c.list_choices-count.result ≤ 64 = omega (arith, c.list_choices-count.ensures.few, variables_few c.args.table.now) in
     search rules
 
 -- some option is free
-some_listed : (g : given.Over) (c : After-list-choices-count g) → 0 < c.list-choices-count.result → 0 < length (take (c.list-choices-count.result - 0) c.list-choices-count.new.out)
+some_listed : (g : given.Over) (c : After-list_choices-count g) → 0 < c.list_choices-count.result → 0 < length (take (c.list_choices-count.result - 0) c.list_choices-count.new.out)
 some_listed g c l =
-    let n : ℕ = c.list-choices-count.result in
-    let few = c.list-choices-count.ensures.few in
-    let long = c.list-choices-count.auto.out in
-    omega (arith, length-take-le (n - 0) c.list-choices-count.new.out (omega (arith, variables_few c.args.table.now, few, long)))
+    let n : ℕ = c.list_choices-count.result in
+    let few = c.list_choices-count.ensures.few in
+    let long = c.list_choices-count.auto.out in
+    omega (arith, length-take-le (n - 0) c.list_choices-count.new.out (omega (arith, variables_few c.args.table.now, few, long)))
 
 pub pick-requires : goal.pick-requires
 pick-requires g c =
     let t = c.args.table.now in
-    let a = (goal.at.pick-requires g c).After-list-choices-count in
+    let a = (goal.at.pick-requires g c).After-list_choices-count in
     record {
       some = some_listed g a (omega arith);
       rising = ap (λ cs. rising (options_of cs)) (listed g a)
@@ -51,7 +51,7 @@ pick-requires g c =
 
 pub returns : goal.returns
 returns g c =
-    let a = (goal.at.returns g c).After-list-choices-count in
+    let a = (goal.at.returns g c).After-list_choices-count in
     let pick = g.O.BranchingOrder.picks c.args.order.now in
     let R = g.K.Figure.ring in
     c.pick.ensures ∙ told_some pick R c.args.part.now _ (some_listed g a (omega arith))

@@ -4,8 +4,8 @@ use Rattle.search.specs.Day.{new, book_of, answer, after}
 use Rattle.search.proofs.Running.{left_all, left_more, left_none}
 use Rattle.search.proofs.day.run_day.Goals as goal
 
-pub offset-bounds-answers-i : goal.offset-bounds-answers-i
-offset-bounds-answers-i g c =
+pub offset_bounds-answers-i : goal.offset_bounds-answers-i
+offset_bounds-answers-i g c =
     let h : c.loop-i.i < length c.args.answers.now = omega (arith, c.fewer-count.ensures) in
     search rules
 

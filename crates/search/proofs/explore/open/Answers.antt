@@ -10,13 +10,13 @@ use Rattle.search.proofs.Leaning.{parts_kept, counts_kept, told_leans}
 use Rattle.search.proofs.Turns.{turn_cut, turn_open, branching_some}
 use Rattle.search.proofs.explore.open.Given as given
 use Rattle.search.proofs.explore.open.Goals as goal
-use Rattle.search.proofs.explore.open.Goals.{After-no-higher-cut, After-options, After-next-option-next, at·After-next-option-next}
+use Rattle.search.proofs.explore.open.Goals.{After-no_higher-cut, After-options, After-next_option-next, at-After-next_option-next}
 
 -- whether the branch is cut
-cut_is : (g : given.Over) (c : After-no-higher-cut g) (b : Bool) → c.no-higher-cut.result ≡ b
+cut_is : (g : given.Over) (c : After-no_higher-cut g) (b : Bool) → c.no_higher-cut.result ≡ b
     → g.K.Figure.ring.upto ((of_table g.K.Figure.ring (g.O.BranchingOrder.picks c.args.order.now) (roles c.args.table.now) (circuit c.args.table.now) c.args.sheet.now).bound_of c.args.holds.now.entries) (best_figure g.K.Figure.ring c.args.found.now.best) ≡ b
 cut_is g c b e =
-    sym (ap₂ g.K.Figure.ring.upto c.pair-bound-bound.ensures.answer c.figure-to-beat.ensures) ∙ sym c.no-higher-cut.ensures ∙ e
+    sym (ap₂ g.K.Figure.ring.upto c.pair_bound-bound.ensures.answer c.figure_to_beat.ensures) ∙ sym c.no_higher-cut.ensures ∙ e
 
 pub returns-then-cut : goal.returns-then-cut
 returns-then-cut g c =
@@ -24,53 +24,53 @@ returns-then-cut g c =
     let R = g.K.Figure.ring in
     let p = of_table R (g.O.BranchingOrder.picks c.args.order.now) (roles t) (circuit t) c.args.sheet.now in
     let h = c.args.holds.now.entries in
-    let e = sym (turn_cut R p c.args.levels h c.args.found.now (cut_is g (goal.at.returns-then-cut g c).After-no-higher-cut _ c.if-cut.true)) in
+    let e = sym (turn_cut R p c.args.levels h c.args.found.now (cut_is g (goal.at.returns-then-cut g c).After-no_higher-cut _ c.if-cut.true)) in
     record {
       option = ap (λ t. t.0) e;
       found = ap (λ t. t.1) e;
-      work = parts_kept R (roles t) (circuit t) c.args.sheet.now h _ _ c.pair-bound-bound.ensures.work;
+      work = parts_kept R (roles t) (circuit t) c.args.sheet.now h _ _ c.pair_bound-bound.ensures.work;
     }
 
 -- the places of a part, and where the root's part ends
 wide : (g : given.Over) (c : After-options g) → 2 * c.options.result + 1 ≡ 2 * length (options (roles c.args.table.now)) + 1
 wide g c = ap (λ n. 2 * n + 1) (c.options.ensures ∙ sym (options_many c.args.table.now))
 
-root_end : (g : given.Over) (c : After-options g) → (length c.args.table.now.nodes.now - 1) * (2 * c.options.result + 1) + (2 * c.options.result + 1) ≤ length c.pair-bound-bound.new.work
+root_end : (g : given.Over) (c : After-options g) → (length c.args.table.now.nodes.now - 1) * (2 * c.options.result + 1) + (2 * c.options.result + 1) ≤ length c.pair_bound-bound.new.work
 root_end g c =
     let t = c.args.table.now in
     let n = length t.nodes.now in
     let stride = 2 * c.options.result + 1 in
     let same : n * stride ≡ length (circuit t) * (2 * length (options (roles t)) + 1) = ap₂ (λ a b. a * b) (sym (node_count t)) (wide g c) in
-    omega (arith, last_part n stride (some_node t), same, c.requires.room, c.pair-bound-bound.auto.work)
+    omega (arith, last_part n stride (some_node t), same, c.requires.room, c.pair_bound-bound.auto.work)
 
-pub offset-bounds-work-base : goal.offset-bounds-work-base
-offset-bounds-work-base g c =
+pub offset_bounds-work-base : goal.offset_bounds-work-base
+offset_bounds-work-base g c =
     let base : ℕ = (length c.args.table.now.nodes.now - 1) * (2 * c.options.result + 1) in
-    let h : base < length c.args.work.now = omega (arith, root_end g (goal.at.offset-bounds-work-base g c).After-options, c.pair-bound-bound.auto.work) in
+    let h : base < length c.args.work.now = omega (arith, root_end g (goal.at.offset_bounds-work-base g c).After-options, c.pair_bound-bound.auto.work) in
     search rules
 
-pub slice-bounds-next-option-end : goal.slice-bounds-next-option-end
-slice-bounds-next-option-end g c = let h = root_end g (goal.at.slice-bounds-next-option-end g c).After-options in search rules
+pub slice_bounds-next_option-end : goal.slice_bounds-next_option-end
+slice_bounds-next_option-end g c = let h = root_end g (goal.at.slice_bounds-next_option-end g c).After-options in search rules
 
-pub next-option-next-requires : goal.next-option-next-requires
-next-option-next-requires g c =
-    let a = (goal.at.next-option-next-requires g c).After-options in
+pub next_option-next-requires : goal.next_option-next-requires
+next_option-next-requires g c =
+    let a = (goal.at.next_option-next-requires g c).After-options in
     let stride : ℕ = 2 * c.options.result + 1 in
     let base : ℕ = (length c.args.table.now.nodes.now - 1) * stride in
-    let work = c.pair-bound-bound.new.work in
+    let work = c.pair_bound-bound.new.work in
     let h = root_end g a in
     length-take-le (base + stride - base) (drop base work) (omega (arith, length-drop base work)) ∙ (let e : base + stride - base ≡ stride = omega arith in e) ∙ wide g a
 
 -- the option to branch on
-next_is : (g : given.Over) (c : After-next-option-next g) → c.next-option-next.result ≡ gate c.args.levels ((of_table g.K.Figure.ring (g.O.BranchingOrder.picks c.args.order.now) (roles c.args.table.now) (circuit c.args.table.now) c.args.sheet.now).next c.args.holds.now.entries)
+next_is : (g : given.Over) (c : After-next_option-next g) → c.next_option-next.result ≡ gate c.args.levels ((of_table g.K.Figure.ring (g.O.BranchingOrder.picks c.args.order.now) (roles c.args.table.now) (circuit c.args.table.now) c.args.sheet.now).next c.args.holds.now.entries)
 next_is g c =
     let t = c.args.table.now in
     let stride = 2 * c.options.result + 1 in
     let pick = g.O.BranchingOrder.picks c.args.order.now in
-    c.next-option-next.ensures
+    c.next_option-next.ensures
     ∙ ap (λ ls. gate c.args.levels (named pick ls))
     (told_leans g.K.Figure.ring pick (roles t) (circuit t) c.args.sheet.now c.args.holds.now.entries stride ((length t.nodes.now - 1) * stride) _ _
-    (wide g (at·After-next-option-next g c).After-options) (omega (arith, node_count t, some_node t)) (ap (λ n. (n - 1) * stride) (sym (node_count t))) c.pair-bound-bound.ensures.work)
+    (wide g (at-After-next_option-next g c).After-options) (omega (arith, node_count t, some_node t)) (ap (λ n. (n - 1) * stride) (sym (node_count t))) c.pair_bound-bound.ensures.work)
 
 pub returns-then-next-eq0 : goal.returns-then-next-eq0
 returns-then-next-eq0 g c =
@@ -79,13 +79,13 @@ returns-then-next-eq0 g c =
     let p = of_table R (g.O.BranchingOrder.picks c.args.order.now) (roles t) (circuit t) c.args.sheet.now in
     let s = c.args.found.now in
     let h = c.args.holds.now.entries in
-    let next : 0 ≡ gate c.args.levels (p.next h) = sym c.if-next-eq0.true ∙ next_is g (goal.at.returns-then-next-eq0 g c).After-next-option-next in
-    let e = sym (turn_open R p c.args.levels h s (cut_is g (goal.at.returns-then-next-eq0 g c).After-no-higher-cut _ c.if-cut.false) 0 next) in
+    let next : 0 ≡ gate c.args.levels (p.next h) = sym c.if-next-eq0.true ∙ next_is g (goal.at.returns-then-next-eq0 g c).After-next_option-next in
+    let e = sym (turn_open R p c.args.levels h s (cut_is g (goal.at.returns-then-next-eq0 g c).After-no_higher-cut _ c.if-cut.false) 0 next) in
     record {
       option = ap (λ t. t.0) e;
-      found = c.offer.ensures ∙ ap (λ f. offered R h f (opened s)) c.count-figure-figure.ensures.answer ∙ ap (λ t. t.1) e;
-      work = counts_kept R (roles t) (circuit t) c.args.sheet.now (selected h) _ _ c.count-figure-figure.ensures.work
-          ∙ parts_kept R (roles t) (circuit t) c.args.sheet.now h _ _ c.pair-bound-bound.ensures.work;
+      found = c.offer.ensures ∙ ap (λ f. offered R h f (opened s)) c.count_figure-figure.ensures.answer ∙ ap (λ t. t.1) e;
+      work = counts_kept R (roles t) (circuit t) c.args.sheet.now (selected h) _ _ c.count_figure-figure.ensures.work
+          ∙ parts_kept R (roles t) (circuit t) c.args.sheet.now h _ _ c.pair_bound-bound.ensures.work;
     }
 
 pub returns : goal.returns
@@ -95,12 +95,12 @@ returns g c =
     let p = of_table R (g.O.BranchingOrder.picks c.args.order.now) (roles t) (circuit t) c.args.sheet.now in
     let s = c.args.found.now in
     let h = c.args.holds.now.entries in
-    let v : ℕ = c.next-option-next.result in
+    let v : ℕ = c.next_option-next.result in
     let some : 0 < v = omega arith in
-    let e = sym (turn_open R p c.args.levels h s (cut_is g (goal.at.returns g c).After-no-higher-cut _ c.if-cut.false) v (next_is g (goal.at.returns g c).After-next-option-next)
+    let e = sym (turn_open R p c.args.levels h s (cut_is g (goal.at.returns g c).After-no_higher-cut _ c.if-cut.false) v (next_is g (goal.at.returns g c).After-next_option-next)
     ∙ branching_some v _ _ some) in
     record {
       option = ap (λ t. t.0) e;
       found = ap (λ t. t.1) e;
-      work = parts_kept R (roles t) (circuit t) c.args.sheet.now h _ _ c.pair-bound-bound.ensures.work;
+      work = parts_kept R (roles t) (circuit t) c.args.sheet.now h _ _ c.pair_bound-bound.ensures.work;
     }

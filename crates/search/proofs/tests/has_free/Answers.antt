@@ -8,30 +8,30 @@ use Rattle.search.proofs.Testing.{option_found, option_later}
 use Rattle.search.proofs.tests.has_free.Invariants.{free_in}
 use Rattle.search.proofs.tests.has_free.Goals as goal
 
-pub overflow-cast-place : goal.overflow-cast-place
-overflow-cast-place c =
+pub overflow_cast-place : goal.overflow_cast-place
+overflow_cast-place c =
     let t = c.args.table.now in
-    omega (arith, ap length c.as-slice-place-end.ensures, variables_long t, variables_few t)
+    omega (arith, ap length c.as_slice-place-end.ensures, variables_long t, variables_few t)
 
-pub overflow-add-place : goal.overflow-add-place
-overflow-add-place c =
+pub overflow_add-place : goal.overflow_add-place
+overflow_add-place c =
     let t = c.args.table.now in
-    omega (arith, ap length c.as-slice-place-end.ensures, variables_long t, variables_few t)
+    omega (arith, ap length c.as_slice-place-end.ensures, variables_long t, variables_few t)
 
-pub returns-then-is-free-option : goal.returns-then-is-free-option
-returns-then-is-free-option c =
+pub returns-then-is_free_option : goal.returns-then-is_free_option
+returns-then-is_free_option c =
     let t = c.args.table.now in
-    let short : c.loop-place.place < length (roles t) = omega (arith, ap length c.as-slice-place-end.ensures, variables_long t) in
-    sym (option_found (free_in c.args.holds.now.entries) (roles t) c.loop-place.place short (sym c.if-is-free-option.ensures)) ∙ c.loop-place.invariant
+    let short : c.loop-place.place < length (roles t) = omega (arith, ap length c.as_slice-place-end.ensures, variables_long t) in
+    sym (option_found (free_in c.args.holds.now.entries) (roles t) c.loop-place.place short (sym c.if-is_free_option.ensures)) ∙ c.loop-place.invariant
 
 pub loop-place-preserved : goal.loop-place-preserved
 loop-place-preserved c =
     let t = c.args.table.now in
-    let short : c.loop-place.place < length (roles t) = omega (arith, ap length c.as-slice-place-end.ensures, variables_long t) in
-    sym (option_later (free_in c.args.holds.now.entries) (roles t) c.loop-place.place short (sym c.if-is-free-option.ensures)) ∙ c.loop-place.invariant
+    let short : c.loop-place.place < length (roles t) = omega (arith, ap length c.as_slice-place-end.ensures, variables_long t) in
+    sym (option_later (free_in c.args.holds.now.entries) (roles t) c.loop-place.place short (sym c.if-is_free_option.ensures)) ∙ c.loop-place.invariant
 
 pub returns : goal.returns
 returns c =
     let t = c.args.table.now in
-    let past : length (roles t) ≤ c.loop-place.place = omega (arith, ap length c.as-slice-place-end.ensures, variables_long t) in
+    let past : length (roles t) ≤ c.loop-place.place = omega (arith, ap length c.as_slice-place-end.ensures, variables_long t) in
     sym (at_drop_all (λ rs. some (free_in c.args.holds.now.entries) (from (c.loop-place.place + 1) true rs)) (roles t) c.loop-place.place past) ∙ c.loop-place.invariant

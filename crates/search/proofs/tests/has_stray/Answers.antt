@@ -11,17 +11,17 @@ use Rattle.search.proofs.tests.has_stray.Goals as goal
 by_place : (rs : Roles) (h : Entries) (i : ℕ) (b : Bool) → b ≡ (not (is_option rs (i + 1)) && not (is_free (get_or h i Free))) → stray rs h (i + 1) ≡ b
 by_place rs h i b e = let at : i + 1 - 1 ≡ i = omega arith in ap (λ k. not (is_option rs (i + 1)) && not (is_free (get_or h k Free))) at ∙ sym e
 
-pub returns-then-is-stray : goal.returns-then-is-stray
-returns-then-is-stray c =
+pub returns-then-is_stray : goal.returns-then-is_stray
+returns-then-is_stray c =
     let rs = roles c.args.table.now in
     let h = c.args.entries.now in
-    sym (some_found (stray rs h) (length h) c.loop-place.place c.loop-place-test.true (by_place rs h c.loop-place.place _ c.if-is-stray.ensures)) ∙ c.loop-place.invariant
+    sym (some_found (stray rs h) (length h) c.loop-place.place c.loop-place-test.true (by_place rs h c.loop-place.place _ c.if-is_stray.ensures)) ∙ c.loop-place.invariant
 
 pub loop-place-preserved : goal.loop-place-preserved
 loop-place-preserved c =
     let rs = roles c.args.table.now in
     let h = c.args.entries.now in
-    sym (some_later (stray rs h) (length h) c.loop-place.place c.loop-place-test.true (by_place rs h c.loop-place.place _ c.if-is-stray.ensures)) ∙ c.loop-place.invariant
+    sym (some_later (stray rs h) (length h) c.loop-place.place c.loop-place-test.true (by_place rs h c.loop-place.place _ c.if-is_stray.ensures)) ∙ c.loop-place.invariant
 
 pub returns : goal.returns
 returns c =

@@ -5,4 +5,4 @@ use Rattle.search.proofs.tests.short_sheet.Goals as goal
 
 pub returns : goal.returns
 returns c =
-    ap (λ n. (ltb c.args.size (2 * n), ShortSheet)) (ap length c.as-slice.ensures ∙ sym (variables_long c.args.table.now))
+    ap (λ n. (ltb c.args.size (2 * n), ShortSheet)) (ap length c.as_slice.ensures ∙ sym (variables_long c.args.table.now))

@@ -24,7 +24,7 @@ pub returns : goal.returns
 returns g c =
     let t = c.args.table.now in
     record {
-      value = c.pair-bound.ensures.answer ∙ ap (λ e. bound g.K.Figure.ring (roles t) c.args.sheet.now (circuit t) e) c.hold.ensures;
+      value = c.pair_bound.ensures.answer ∙ ap (λ e. bound g.K.Figure.ring (roles t) c.args.sheet.now (circuit t) e) c.hold.ensures;
       same = put_back c.args.holds.now.entries c.hold.new.self.entries _ c.args.variable (held c.args.on) c.requires.known.0 c.hold.ensures c.drop-trial.ensures;
-      behind = parts_kept g.K.Figure.ring (roles t) (circuit t) c.args.sheet.now c.hold.new.self.entries c.pair-bound.new.work c.args.work.now c.pair-bound.ensures.work;
+      behind = parts_kept g.K.Figure.ring (roles t) (circuit t) c.args.sheet.now c.hold.new.self.entries c.pair_bound.new.work c.args.work.now c.pair_bound.ensures.work;
     }
