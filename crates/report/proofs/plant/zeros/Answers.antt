@@ -7,7 +7,7 @@ loop-init g c = c.new-store.ensures.items
 
 pub loop-preserved : goal.loop-preserved
 loop-preserved g c =
-    c.in-ok-push.ensures.items
+    c.in_ok-push.ensures.items
     ∙ ap₂ (λ l x. l ++ x ∷ []) c.loop.invariant c.zero.ensures
     ∙ replicate_more c.loop.counter g.K.Figure.ring.zero
 
