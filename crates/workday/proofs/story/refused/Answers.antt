@@ -4,5 +4,5 @@ use Rattle.workday.proofs.story.refused.Goals as goal
 
 pub returns : goal.returns
 returns c =
-    refused_printed string_bytes c.format.result c.args.part.now (string_bytes c.in-ok-refusal.refusal) c.args.fault
-    c.in-ok-refusal.ensures c.format.ensures.ok
+    refused_printed string_bytes c.format.result c.args.part.now (string_bytes c.in_ok-refusal.refusal) c.args.fault
+    c.in_ok-refusal.ensures c.format.ensures.ok
