@@ -6,8 +6,8 @@ use Rattle.table.proofs.Asked.{variables_long}
 use Rattle.passes.proofs.Roots.{node_count, options_many}
 use Rattle.bench.proofs.measure.bound_in.Goals as goal
 
-pub pair-bound-requires : goal.pair-bound-requires
-pair-bound-requires g c =
+pub pair_bound-requires : goal.pair_bound-requires
+pair_bound-requires g c =
     let t = c.args.table.now in
     let wide : 2 * length (options (roles t)) + 1 ≡ 2 * c.options-options.result + 1 = ap (λ n. 2 * n + 1) (options_many t ∙ sym c.options-options.ensures) in
     let same : length (circuit t) * (2 * length (options (roles t)) + 1) ≡ length t.nodes.now * (2 * c.options-options.result + 1) = ap₂ (λ a b. a * b) (node_count t) wide in
