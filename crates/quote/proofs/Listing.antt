@@ -1,5 +1,5 @@
 -- Lemmas on what the program prints. Assumes nothing.
-use Rattle.std.proofs.Common.{◌≡◌, ℕ, ◌+◌, ◌-◌, ◌<◌, ◌≤◌, List, [], ◌∷◌, ◌++◌, length, get_or, drop, IfOk, Ok, Err, codes, IsAscii, Result, sym, refl, ap, ◌∙◌, subst, arith}
+use Rattle.std.proofs.Common.{◌≡◌, ℕ, ◌+◌, ◌<◌, ◌≤◌, List, [], ◌∷◌, ◌++◌, length, get_or, drop, IfOk, Ok, Err, codes, IsAscii, Result, sym, refl, ap, ◌∙◌, subst, arith}
 use Rattle.std.proofs.lemmas.List.{at_drop_more, length-take}
 use Rattle.text.specs.Format.{options, listed}
 use Rattle.text.proofs.Says.{options_within as options_few}

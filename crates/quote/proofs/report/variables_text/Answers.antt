@@ -14,9 +14,9 @@ loop-i-preserved c = λ plain.
     let v = c.index-variables-i.result in
     let is = c.index-variables-i.is in
     let lt = c.loop-i-test.true in
-    let line = c.in-ok-line.ensures (plain_at vs i v lt is plain) in
-    variables_more vs i v (string_bytes c.loop-i.text) c.as-str.result.now (string_bytes c.push-str.new.self)
-    lt is c.in-ok-push-str.ensures.bytes (c.as-str.ensures.value ∙ line) (c.loop-i.invariant plain)
+    let line = c.in_ok-line.ensures (plain_at vs i v lt is plain) in
+    variables_more vs i v (string_bytes c.loop-i.text) c.as_str.result.now (string_bytes c.push_str.new.self)
+    lt is c.in_ok-push_str.ensures.bytes (c.as_str.ensures.value ∙ line) (c.loop-i.invariant plain)
 
 pub returns : goal.returns
 returns c = λ plain.
