@@ -65,5 +65,5 @@ pub fn file(roles: &str, nodes: &str, heap: Global) -> Result<String, AllocError
     let lines = variable_lines(roles, heap)?;
     let tabbed = nodes.replace(heap, " ", "\t")?;
     let broken = tabbed.as_str().replace(heap, "/", "\n")?;
-    format!(in heap; "G\t{variables}\t{count}\t{children}\n{lines}{broken}\n",)
+    format!(in heap; "G\t{variables}\t{count}\t{children}\n{lines}{broken}\n")
 }
