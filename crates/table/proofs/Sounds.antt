@@ -3,7 +3,7 @@ use Rattle.std.proofs.Common.{◌≡◌, ℕ, zero, suc, ◌+◌, ◌-◌, ◌<�
 use Rattle.std.proofs.lemmas.Bool.{false≢true, cases_Bool, cond-true, cond-false}
 use Rattle.std.proofs.lemmas.Bool.Decides.{Decides-and, Decides-ltb}
 use Rattle.table.specs.declared.fault.Flaw.{Flaw}
-use Rattle.table.specs.Circuit.{Shape, lit, all, fork, top, bottom, every, truth, mentions}
+use Rattle.table.specs.Circuit.{Shape, lit, all, fork, top, bottom, every, mentions}
 use Rattle.table.specs.Sound.{Roles, Verdict, sound, chances, up_to, children, unless, flaw_first, flaw_at, verdict_from, verdict}
 use Rattle.table.specs.Facts.{Among, node, about, Ordered, Known, Total, KnownVariables, HasLiteral, Proper, Deterministic, LocalTruth}
 use Rattle.table.proofs.Listed.{decides_same, decides_every}

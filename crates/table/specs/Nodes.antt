@@ -5,7 +5,6 @@ use Rattle.text.specs.declared.record.Form.TheVariants.{Literal, And, Fork, True
 use Rattle.text.specs.declared.record.Node.{Node}
 use Rattle.text.specs.declared.record.Role.{Role}
 use Rattle.text.specs.declared.record.Role.TheVariants as role
-use Rattle.text.specs.declared.record.Variable.{Variable}
 use Rattle.text.specs.declared.record.Variables.{Variables}
 use Rattle.text.specs.Format.{listed}
 use Rattle.table.specs.Circuit.{Shape, lit, all, fork, top, bottom}

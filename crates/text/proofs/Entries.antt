@@ -5,7 +5,7 @@ use Rattle.text.specs.declared.fault.Reason.{Reason}
 use Rattle.text.specs.declared.fault.Reason.TheVariants as reason
 use Rattle.text.specs.declared.kind.Kind.TheVariants as kind
 use Rattle.text.specs.declared.record.Form.{Form}
-use Rattle.text.specs.declared.record.Form.TheVariants.{Literal, And, Fork, True, False}
+use Rattle.text.specs.declared.record.Form.TheVariants.{And, Fork, True, False}
 use Rattle.text.specs.Lines.{every, onto, fields}
 use Rattle.text.specs.Numerals.{number}
 use Rattle.text.specs.Format.{Said, Entry, then, no_field, number_field, is_number, number_or_zero, numbers, entry_of, entry_says, literal, literal_of, said_literal}

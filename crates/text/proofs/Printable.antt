@@ -11,7 +11,7 @@ use Rattle.text.specs.declared.record.Contents.{Contents}
 use Rattle.text.specs.declared.record.Role.{Role}
 use Rattle.text.specs.declared.record.Variable.{Variable}
 use Rattle.text.specs.Lines.{every, printable, onto, lines, fields}
-use Rattle.text.specs.Format.{Said, Rooms, Sofar, Reading, number_field, role_of, name_of, blank, listed, is_named, one_if_option, options, follows_rules, said_variable, header_says, variable_says, entry_says, fitting, is_header, is_variable, section_at, kind_of, by_section, by_fields, line_says, is_complete, accepted, refused, read_on, nothing_yet, file_says, named_printable}
+use Rattle.text.specs.Format.{Said, Rooms, Sofar, Reading, number_field, role_of, blank, listed, is_named, one_if_option, options, follows_rules, said_variable, header_says, variable_says, entry_says, fitting, is_header, is_variable, section_at, kind_of, by_section, by_fields, line_says, is_complete, accepted, refused, read_on, nothing_yet, file_says, named_printable}
 use Rattle.text.proofs.Limits.{never, same_ok, provided_ok, then_ok}
 use Rattle.text.proofs.Names.{spelled_name_of}
 

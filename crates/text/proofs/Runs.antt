@@ -12,9 +12,8 @@ use Rattle.text.specs.declared.kind.Section.TheVariants as section
 use Rattle.text.specs.declared.record.Node.{Node}
 use Rattle.text.specs.declared.record.Contents.{Contents}
 use Rattle.text.specs.Lines.{every, printable, lines, fields}
-use Rattle.text.specs.Format.{Rooms, rooms_for, Sofar, Reading, then, provided, header_says, variable_says, entry_says, fitting, is_header, is_variable, section_at, kind_of, all_read, is_complete, by_section, by_fields, line_says, accepted, refused, read_on, nothing_yet, file_says, overwritten}
+use Rattle.text.specs.Format.{Rooms, rooms_for, Sofar, Reading, header_says, variable_says, entry_says, fitting, is_header, is_variable, section_at, kind_of, all_read, is_complete, by_section, by_fields, line_says, accepted, refused, read_on, nothing_yet, file_says, overwritten}
 use Rattle.text.specs.Steps.{State, state, sofar, rooms_of, Bounded, Taken, begun}
-use Rattle.text.proofs.Cuts.{first_line}
 use Rattle.text.proofs.Limits.{same_ok, provided_ok, then_ok, never}
 
 -- A line that is accepted ends at the next line's place.

@@ -1,12 +1,12 @@
-use Rattle.std.proofs.Common.{◌≡◌, ◌+◌, ◌*◌, ◌≤◌, true, length, sym, ap, ◌∙◌, subst, ap₂, arith}
+use Rattle.std.proofs.Common.{◌≡◌, ◌+◌, ◌*◌, true, length, sym, ap, ◌∙◌, subst, ap₂, arith}
 use Rattle.std.proofs.lemmas.Bool.{le-leb}
 use Rattle.table.proofs.Asked.{proved_sound}
 use Rattle.table.proofs.Upward.{upward_length}
-use Rattle.table.specs.Circuit.{World, mentions}
+use Rattle.table.specs.Circuit.{mentions}
 use Rattle.table.specs.Count.{figure}
 use Rattle.table.specs.Sound.{options, chances}
 use Rattle.table.specs.Whole.{circuit, roles}
-use Rattle.passes.specs.Holding.{Keeps, Complete, selected}
+use Rattle.passes.specs.Holding.{selected}
 use Rattle.passes.specs.Passes.{pair, plain_bound}
 use Rattle.passes.proofs.Above.{covers}
 use Rattle.passes.proofs.Below.{tightens, meets, plain_where_held}

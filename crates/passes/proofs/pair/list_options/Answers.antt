@@ -1,5 +1,4 @@
 use Rattle.std.proofs.Common.{ℕ, ◌+◌, ◌<◌, ◌≤◌, true, ◌++◌, length, take, drop, sym, ap, ◌∙◌, ap₂, arith}
-use Rattle.text.specs.Format.{listed}
 use Rattle.table.specs.Sound.{from}
 use Rattle.table.specs.Whole.{roles}
 use Rattle.table.proofs.Asked.{variables_long, variables_few}

@@ -2,7 +2,6 @@ use Rattle.std.proofs.Common.{ℕ, ◌+◌, ◌*◌, ◌<◌, ◌≤◌, length,
 use Rattle.std.proofs.lemmas.List.{length-map}
 use Rattle.table.specs.Circuit.{onward}
 use Rattle.table.specs.Nodes.{shape}
-use Rattle.table.specs.Sound.{options}
 use Rattle.table.specs.Whole.{circuit, roles}
 use Rattle.table.proofs.Asked.{proved_sound}
 use Rattle.table.proofs.Sounds.{sound_proper}

@@ -1,4 +1,4 @@
-use Rattle.std.proofs.Common.{arith, rules}
+use Rattle.std.proofs.Common.{arith}
 use Rattle.text.proofs.Cuts.{index_here, index_next, index_none}
 use Rattle.text.proofs.fields.find.Goals as goal
 

@@ -1,4 +1,4 @@
-use Rattle.std.proofs.Common.{take, sym, ap, ◌∙◌, rules}
+use Rattle.std.proofs.Common.{rules}
 use Rattle.text.proofs.Cuts.{first_field_is}
 use Rattle.text.proofs.fields.first_field.Goals as goal
 

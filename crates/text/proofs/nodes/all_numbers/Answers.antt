@@ -1,4 +1,4 @@
-use Rattle.std.proofs.Common.{◌≡◌, ◌+◌, ◌-◌, Bool, ◌&&◌, [], length, take, drop, is_some, sym, ap, ◌∙◌, arith}
+use Rattle.std.proofs.Common.{◌≡◌, ◌+◌, ◌-◌, ◌&&◌, [], take, drop, is_some, sym, ap, ◌∙◌, arith}
 use Rattle.text.specs.Lines.{every, fields}
 use Rattle.text.specs.Format.{is_number}
 use Rattle.text.proofs.Cuts.{fields_left, fields_last, fields_first}

@@ -1,4 +1,4 @@
-use Rattle.std.proofs.Common.{◌≡◌, ◌≤◌, true, false, length, drop, sym, ap, ◌∙◌, arith}
+use Rattle.std.proofs.Common.{◌≤◌, length, sym, ap, ◌∙◌, arith}
 use Rattle.text.specs.Lines.{every, fields}
 use Rattle.text.specs.Format.{is_number}
 use Rattle.text.proofs.Entries.{and_short, and_wrong, and_right}

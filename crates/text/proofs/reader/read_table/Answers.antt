@@ -1,9 +1,9 @@
-use Rattle.std.proofs.Common.{◌≡◌, ℕ, ◌+◌, ◌-◌, ◌<◌, ◌≤◌, false, ◌&&◌, leb, List, length, take, drop, Ok, Err, sym, ap, ◌∙◌, subst, ⊎_elim, arith}
+use Rattle.std.proofs.Common.{◌≡◌, ◌+◌, ◌-◌, ◌<◌, false, ◌&&◌, leb, length, take, drop, Ok, Err, sym, ap, ◌∙◌, subst, ⊎_elim, arith}
 use Rattle.std.proofs.lemmas.Bool.{and_left, and_right, lt-leb}
 use Rattle.text.specs.Format.{rooms_for, line_says}
-use Rattle.text.specs.Steps.{State, state, sofar, rooms_of, Taken}
+use Rattle.text.specs.Steps.{state, sofar, Taken}
 use Rattle.text.proofs.Cuts.{line_inside, line_size, lines_left, lines_none}
-use Rattle.text.proofs.Runs.{Going, Ends, completeness, ends_accepted, ends_missing, ends_line, ends_inside, ends_outside, goes_on, rooms_same, line_place}
+use Rattle.text.proofs.Runs.{Going, completeness, ends_accepted, ends_missing, ends_line, ends_inside, ends_outside, goes_on, rooms_same, line_place}
 use Rattle.text.proofs.Printable.{file_printable}
 use Rattle.text.proofs.reader.read_table.Goals as goal
 use Rattle.text.proofs.reader.read_table.Goals.{In-Ok}

@@ -1,4 +1,4 @@
-use Rattle.std.proofs.Common.{map, length, drop, sym, ◌∙◌, arith}
+use Rattle.std.proofs.Common.{map, drop, sym, arith}
 use Rattle.std.proofs.lemmas.List.{length-map, length-drop}
 use Rattle.text.specs.Lines.{fields}
 use Rattle.text.specs.Format.{number_or_zero}

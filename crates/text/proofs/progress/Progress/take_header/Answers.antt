@@ -1,6 +1,6 @@
-use Rattle.std.proofs.Common.{◌≡◌, length, drop, Ok, sym, refl, ap, ◌∙◌, arith}
+use Rattle.std.proofs.Common.{length, drop, Ok, sym, refl, ap, ◌∙◌, arith}
 use Rattle.text.specs.Lines.{fields}
-use Rattle.text.specs.Format.{then, header_says, with_header, header_of, Rooms}
+use Rattle.text.specs.Format.{then, with_header}
 use Rattle.text.specs.Steps.{state, sofar, rooms_of}
 use Rattle.text.proofs.Limits.{header_limits}
 use Rattle.text.proofs.progress.Progress.take_header.Goals as goal

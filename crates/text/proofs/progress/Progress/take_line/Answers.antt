@@ -1,4 +1,4 @@
-use Rattle.std.proofs.Common.{◌≡◌, sym, refl, subst}
+use Rattle.std.proofs.Common.{sym, refl, subst}
 use Rattle.text.specs.declared.kind.Section.TheVariants as section
 use Rattle.text.specs.Steps.{state, sofar, rooms_of, Steps}
 use Rattle.text.proofs.Sections.{unprintable, says_by, no_header, no_variable}
