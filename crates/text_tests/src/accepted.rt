@@ -3,7 +3,7 @@ use crate::plant::*;
 use crate::stores::{Shown, Stores};
 use std::alloc::Global;
 use std::process::Abort;
-use std::test::*;
+use std::test::Fail;
 use text::record::{Role, Variables};
 
 // What a file says.
@@ -66,21 +66,16 @@ const LEAST_SAID: Said = Said {
     weights: 18,
 };
 
-fn check_variables(
-    rt: &impl Abort,
-    variables: &Variables,
-    due: &[(&str, &str)],
-) -> Result<(), Fail> {
-    assert_eq!(rt; variables.as_slice().len(), due.len());
+fn check_variables(rt: &impl Abort, variables: &Variables, due: &[(&str, &str)], case: &str) {
+    assert_eq!(rt; variables.as_slice().len(), due.len(), "{case}");
     for (variable, (role, name)) in variables.as_slice().iter().zip(due) {
         let shown = match variable.role {
             Role::Option => "option",
             Role::Chance => "chance",
         };
-        assert_eq!(rt; shown, *role, "{}", *name);
-        assert_eq!(rt; variable.name.as_bytes(), name.as_bytes(), "{}", *name);
+        assert_eq!(rt; shown, *role, "{name}: {case}");
+        assert_eq!(rt; variable.name.as_bytes(), name.as_bytes(), "{name}: {case}");
     }
-    Ok(())
 }
 
 // The file is read so into stores with so many places more than it needs, which it leaves alone.
@@ -90,6 +85,7 @@ fn check_said(
     due: Said,
     more: usize,
     heap: Global,
+    case: &str,
 ) -> Result<(), Fail> {
     let nodes = due.nodes.len();
     let children = due.children.len();
@@ -99,7 +95,7 @@ fn check_said(
         heap,
     )?;
     let Ok(contents) = stores.read(file) else {
-        return Err(Fail::new("refused"));
+        return Err(Fail::new(format_args!("refused: {case}")));
     };
     assert_eq!(rt;
         (
@@ -107,19 +103,21 @@ fn check_said(
             usize::from(contents.children),
             contents.weights,
         ),
-        (nodes, children, due.weights)
+        (nodes, children, due.weights),
+        "{case}"
     );
-    check_variables(rt, &contents.variables, due.variables)?;
-    stores.check((due.nodes, nodes), (due.children, children))
+    check_variables(rt, &contents.variables, due.variables, case);
+    stores.check(rt, (due.nodes, nodes), (due.children, children), &case);
+    Ok(())
 }
 
 #[test]
 fn whole_files(rt: HostRuntime) -> Result<(), Fail> {
     let file = plant(rt.alloc())?;
     for more in [0, 1, 30] {
-        check_said(&rt, file.as_bytes(), PLANT, more, rt.alloc()).note("plant")?;
-        check_said(&rt, KINDS.as_bytes(), KINDS_SAID, more, rt.alloc()).note("kinds")?;
-        check_said(&rt, LEAST.as_bytes(), LEAST_SAID, more, rt.alloc()).note("least")?;
+        check_said(&rt, file.as_bytes(), PLANT, more, rt.alloc(), "plant")?;
+        check_said(&rt, KINDS.as_bytes(), KINDS_SAID, more, rt.alloc(), "kinds")?;
+        check_said(&rt, LEAST.as_bytes(), LEAST_SAID, more, rt.alloc(), "least")?;
     }
     Ok(())
 }
@@ -149,7 +147,7 @@ fn sound_lines(rt: HostRuntime) -> Result<(), Fail> {
         let Ok(contents) = stores.read(file.as_bytes()) else {
             return Err(Fail::new(*text));
         };
-        assert_eq!(rt; contents.weights, *weights, "{}", *text);
+        assert_eq!(rt; contents.weights, *weights, "{text}");
     }
     Ok(())
 }

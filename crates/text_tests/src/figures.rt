@@ -3,7 +3,7 @@ use kinds::value::{Peak, Tally};
 use kinds::written::Written;
 use std::alloc::{AllocError, Global};
 use std::process::Abort;
-use std::test::*;
+use std::test::Fail;
 
 // Whether `text` is read as a figure, and the figure written as `text` again.
 fn comes_back<W: Written>(text: &str, heap: Global) -> Result<bool, AllocError> {
@@ -23,10 +23,10 @@ fn check_texts<W: Written>(
     heap: Global,
 ) -> Result<(), Fail> {
     for text in sound {
-        assert!(rt; comes_back::<W>(*text, heap)?, "{}", *text);
+        assert!(rt; comes_back::<W>(*text, heap)?, "{text}");
     }
     for text in spoiled {
-        assert!(rt; W::read(text.as_bytes()).is_none(), "{}", *text);
+        assert!(rt; W::read(text.as_bytes()).is_none(), "{text}");
     }
     Ok(())
 }

@@ -1,7 +1,7 @@
 //! Files at the limits.
 use crate::stores::{Refusal, Stores};
 use std::alloc::{AllocError, Global};
-use std::test::*;
+use std::test::Fail;
 
 // A file with the highest counts: 64 variables, of which the first `options` are options, 4095
 // true nodes, and an and of so many children.
@@ -61,14 +61,14 @@ fn at_the_limits(rt: HostRuntime) -> Result<(), Fail> {
     let children = vec![in rt.alloc(); 7; 12288]?;
     for (options, last, count, rooms, due, written) in CASES {
         let file = large(*options, *last, *count, rt.alloc())?;
-        Stores::new(rooms.0, rooms.1, rt.alloc())?
-            .check_read(
-                file.as_bytes(),
-                *due,
-                (nodes.as_slice(), written.0),
-                (children.as_slice(), written.1),
-            )
-            .note(*last)?;
+        Stores::new(rooms.0, rooms.1, rt.alloc())?.check_read(
+            &rt,
+            file.as_bytes(),
+            *due,
+            (nodes.as_slice(), written.0),
+            (children.as_slice(), written.1),
+            last,
+        );
     }
     Ok(())
 }

@@ -1,5 +1,4 @@
 //! Numbers as text, at their edges.
-use std::test::*;
 use text::numeral::{read_number, read_numeral};
 
 // A field, and the number that it writes.
@@ -33,17 +32,15 @@ const NUMERALS: &[(&str, usize, u64, Option<u64>)] = &[
 ];
 
 #[test]
-fn edges_of_a_number(rt: HostRuntime) -> Result<(), Fail> {
+fn edges_of_a_number(rt: HostRuntime) {
     for (field, value) in NUMBERS {
-        assert_eq!(rt; read_number(field.as_bytes()), *value, "{}", *field);
+        assert_eq!(rt; read_number(field.as_bytes()), *value, "{field}");
     }
     for (field, most, cap, value) in NUMERALS {
         assert_eq!(rt;
             read_numeral(field.as_bytes(), *most, *cap),
             *value,
-            "{}",
-            *field
+            "{field}"
         );
     }
-    Ok(())
 }

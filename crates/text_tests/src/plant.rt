@@ -1,7 +1,9 @@
 //! Plant K, sound and spoiled.
 use crate::stores::{Refusal, Shown, Stores};
 use std::alloc::{AllocError, Global};
-use std::test::*;
+use std::fmt::Display;
+use std::process::Abort;
+use std::test::Fail;
 
 /// Its first line.
 pub const HEADER: &str = "G\t2\t7\t6";
@@ -83,11 +85,25 @@ pub(crate) fn spoiled(
 
 /// A file that is the plant's up to some line, but perhaps for the header's counts, is refused
 /// there, or is accepted whole. The stores hold what the lines before it wrote.
-pub(crate) fn check_read(file: &[u8], due: Option<Refusal>, heap: Global) -> Result<(), Fail> {
+pub(crate) fn check_read(
+    rt: &impl Abort,
+    file: &[u8],
+    due: Option<Refusal>,
+    heap: Global,
+    case: &impl Display,
+) -> Result<(), Fail> {
     let line = match due {
         Some((_, place)) => place,
         None => 11,
     };
     let (nodes, children) = *WRITTEN.get(line).ok_or("no such line")?;
-    Stores::new(9, 8, heap)?.check_read(file, due, (&NODES, nodes), (&CHILDREN, children))
+    Stores::new(9, 8, heap)?.check_read(
+        rt,
+        file,
+        due,
+        (&NODES, nodes),
+        (&CHILDREN, children),
+        case,
+    );
+    Ok(())
 }

@@ -1,7 +1,7 @@
 //! Refusals, each with its number, its place and what the stores hold after it.
 use crate::plant::*;
 use crate::stores::Stores;
-use std::test::*;
+use std::test::Fail;
 
 // A number, a line, and a text in its place for which the file is refused there with that number.
 const LINES: &[(u8, usize, &str)] = &[
@@ -187,7 +187,13 @@ const LINES: &[(u8, usize, &str)] = &[
 fn spoiled_lines(rt: HostRuntime) -> Result<(), Fail> {
     for (number, line, text) in LINES {
         let file = spoiled(HEADER, *line, *text, rt.alloc())?;
-        check_read(file.as_bytes(), Some((*number, *line)), rt.alloc()).note(*text)?;
+        check_read(
+            &rt,
+            file.as_bytes(),
+            Some((*number, *line)),
+            rt.alloc(),
+            text,
+        )?;
     }
     Ok(())
 }
@@ -221,7 +227,7 @@ fn spoiled_numbers(rt: HostRuntime) -> Result<(), Fail> {
         for form in FORMS {
             let text = format!(in rt.alloc(); "{before}{form}{behind}")?;
             let file = spoiled(HEADER, *line, text.as_str(), rt.alloc())?;
-            check_read(file.as_bytes(), Some((3, *line)), rt.alloc()).note(text.as_str())?;
+            check_read(&rt, file.as_bytes(), Some((3, *line)), rt.alloc(), &text)?;
         }
     }
     Ok(())
@@ -257,9 +263,13 @@ const HEADERS: &[(&str, usize, &str, u8, usize)] = &[
 fn spoiled_headers(rt: HostRuntime) -> Result<(), Fail> {
     for (header, line, text, number, place) in HEADERS {
         let file = spoiled(*header, *line, *text, rt.alloc())?;
-        check_read(file.as_bytes(), Some((*number, *place)), rt.alloc())
-            .note(*header)
-            .note(*text)?;
+        check_read(
+            &rt,
+            file.as_bytes(),
+            Some((*number, *place)),
+            rt.alloc(),
+            &format_args!("{header}: {text}"),
+        )?;
     }
     Ok(())
 }
@@ -268,9 +278,15 @@ fn spoiled_headers(rt: HostRuntime) -> Result<(), Fail> {
 fn short_stores(rt: HostRuntime) -> Result<(), Fail> {
     let file = plant(rt.alloc())?;
     for (node_room, child_room) in [(6, 6), (7, 5), (6, 5), (0, 6), (7, 0), (0, 0)] {
-        Stores::new(node_room, child_room, rt.alloc())?
-            .check_read(file.as_bytes(), Some((5, 1)), (&NODES, 0), (&CHILDREN, 0))
-            .note(format_args!("{node_room} {child_room}"))?;
+        let case = format!(in rt.alloc(); "{node_room} {child_room}")?;
+        Stores::new(node_room, child_room, rt.alloc())?.check_read(
+            &rt,
+            file.as_bytes(),
+            Some((5, 1)),
+            (&NODES, 0),
+            (&CHILDREN, 0),
+            &case,
+        );
     }
     Ok(())
 }
@@ -290,13 +306,13 @@ fn cut_anywhere(rt: HostRuntime) -> Result<(), Fail> {
             None
         };
         assert!(rt; i <= bytes.len());
-        check_read(&bytes[0..i], due, rt.alloc()).note(i)?;
+        check_read(&rt, &bytes[0..i], due, rt.alloc(), &i)?;
         if *byte == b'\n' {
             line = line.wrapping_add(1);
         }
     }
     assert_eq!(rt; line, 12);
-    check_read(b"G\t0\t7\t6", Some((2, 1)), rt.alloc())
+    check_read(&rt, b"G\t0\t7\t6", Some((2, 1)), rt.alloc(), &"no node")
 }
 
 // Each byte in the place of the space in `hot day`, which is byte 36 of the file.
@@ -314,7 +330,7 @@ fn each_byte(rt: HostRuntime) -> Result<(), Fail> {
         };
         assert!(rt; 36 < bytes.len());
         bytes[36] = byte;
-        check_read(bytes.as_slice(), due, rt.alloc()).note(byte)?;
+        check_read(&rt, bytes.as_slice(), due, rt.alloc(), &byte)?;
     }
     Ok(())
 }
@@ -324,7 +340,7 @@ fn length_of_a_file(rt: HostRuntime) -> Result<(), Fail> {
     let file = plant(rt.alloc())?;
     let mut bytes = file.as_bytes().to_vec(rt.alloc())?;
     bytes.resize(65536, b'7')?;
-    check_read(bytes.as_slice(), None, rt.alloc())?;
+    check_read(&rt, bytes.as_slice(), None, rt.alloc(), &"longest")?;
     bytes.push(b'7')?;
-    check_read(bytes.as_slice(), Some((1, 0)), rt.alloc())
+    check_read(&rt, bytes.as_slice(), Some((1, 0)), rt.alloc(), &"too long")
 }

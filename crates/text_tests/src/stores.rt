@@ -1,6 +1,7 @@
 //! The stores that a file is read into, and what the reader makes of it.
 use std::alloc::{AllocError, Global};
-use std::test::*;
+use std::fmt::Display;
+use std::process::Abort;
 use text::fault::{Fault, Layer};
 use text::reader::read_table;
 use text::record::{Contents, Form, Node};
@@ -58,12 +59,15 @@ impl Stores {
     }
 
     /// The refusal that a file meets, if it meets one.
-    fn refusal(&mut self, file: &[u8]) -> Result<Option<Refusal>, Fail> {
+    fn refusal(&mut self, rt: &impl Abort, file: &[u8], case: &impl Display) -> Option<Refusal> {
         match self.read(file) {
-            Ok(_) => Ok(None),
+            Ok(_) => None,
             Err(fault) => {
-                assert!(matches!(fault.layer(), Layer::Text), "another layer");
-                Ok(Some((fault.number(), fault.place())))
+                assert!(rt;
+                    matches!(fault.layer(), Layer::Text),
+                    "another layer: {case}"
+                );
+                Some((fault.number(), fault.place()))
             }
         }
     }
@@ -71,35 +75,38 @@ impl Stores {
     /// A file meets this refusal or none, and leaves so many of these nodes and children.
     pub(crate) fn check_read(
         &mut self,
+        rt: &impl Abort,
         file: &[u8],
         due: Option<Refusal>,
         nodes: (&[Shown], usize),
         children: (&[u16], usize),
-    ) -> Result<(), Fail> {
-        assert_eq!(self.refusal(file)?, due);
-        self.check(nodes, children)
+        case: &impl Display,
+    ) {
+        assert_eq!(rt; self.refusal(rt, file, case), due, "{case}");
+        self.check(rt, nodes, children, case)
     }
 
     /// The stores hold so many of these nodes and of these children, and behind them the marks.
     pub(crate) fn check(
         &self,
+        rt: &impl Abort,
         (nodes, node_count): (&[Shown], usize),
         (children, child_count): (&[u16], usize),
-    ) -> Result<(), Fail> {
+        case: &impl Display,
+    ) {
         for (i, node) in self.nodes.iter().enumerate() {
             let due = match nodes.get(i) {
                 Some(written) if i < node_count => *written,
                 _ => shown(&NODE_MARK),
             };
-            assert_eq!(shown(node), due, "node {i}");
+            assert_eq!(rt; shown(node), due, "node {i}: {case}");
         }
         for (i, child) in self.children.iter().enumerate() {
             let due = match children.get(i) {
                 Some(written) if i < child_count => *written,
                 _ => CHILD_MARK,
             };
-            assert_eq!(*child, due, "child {i}");
+            assert_eq!(rt; *child, due, "child {i}: {case}");
         }
-        Ok(())
     }
 }
