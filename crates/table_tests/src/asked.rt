@@ -83,25 +83,26 @@ fn check_asked(
     stores: &Stores,
     mentions: &[Mention],
     known: &[Known],
+    case: &str,
 ) -> Result<(), Fail> {
     let nodes = stores.nodes.as_slice();
     let children = stores.children.as_slice();
     let table = match check_table(nodes, children, &stores.variables) {
         Ok(sets) => Table::new(nodes, children, stores.variables, sets),
-        Err(_) => return Err(Fail::new("refused")),
+        Err(_) => return Err(Fail::new(format_args!("refused: {case}"))),
     };
     for (node, variable, due) in mentions {
         assert_eq!(rt;
             table.does_mention(*node, *variable),
             *due,
-            "node {node}, variable {variable}"
+            "node {node}, variable {variable}: {case}"
         );
     }
     for (variable, is_there, is_option) in known {
         assert_eq!(rt;
             (table.has_variable(*variable), table.has_option(*variable)),
             (*is_there, *is_option),
-            "variable {variable}"
+            "variable {variable}: {case}"
         );
     }
     Ok(())
@@ -110,8 +111,8 @@ fn check_asked(
 #[test]
 fn asked(rt: HostRuntime) -> Result<(), Fail> {
     let plant = Stores::read(PLANT, rt.alloc())?;
-    check_asked(&rt, &plant, PLANT_MENTIONS, PLANT_KNOWN).note("plant K")?;
+    check_asked(&rt, &plant, PLANT_MENTIONS, PLANT_KNOWN, "plant K")?;
     let text = large(rt.alloc())?;
     let largest = Stores::read(text.as_str(), rt.alloc())?;
-    check_asked(&rt, &largest, LARGE_MENTIONS, LARGE_KNOWN).note("the largest")
+    check_asked(&rt, &largest, LARGE_MENTIONS, LARGE_KNOWN, "the largest")
 }

@@ -84,10 +84,17 @@ const SOUND: &[(&str, &str, &[u64])] = &[
 
 #[test]
 fn sound(rt: HostRuntime) -> Result<(), Fail> {
-    check_file(&rt, PLANT, (0, 0), &[2, 1, 3, 2, 1, 3, 3], rt.alloc())?;
+    check_file(
+        &rt,
+        PLANT,
+        (0, 0),
+        &[2, 1, 3, 2, 1, 3, 3],
+        rt.alloc(),
+        &"plant K",
+    )?;
     for (roles, nodes, sets) in SOUND {
         let text = file(*roles, *nodes, rt.alloc())?;
-        check_file(&rt, text.as_str(), (0, 0), *sets, rt.alloc()).note(*nodes)?;
+        check_file(&rt, text.as_str(), (0, 0), *sets, rt.alloc(), nodes)?;
     }
     Ok(())
 }
@@ -246,7 +253,7 @@ const FLAWED: &[(u8, usize, &str, &str)] = &[
 fn flawed(rt: HostRuntime) -> Result<(), Fail> {
     for (number, node, roles, nodes) in FLAWED {
         let text = file(*roles, *nodes, rt.alloc())?;
-        check_file(&rt, text.as_str(), (*number, *node), &[], rt.alloc()).note(*nodes)?;
+        check_file(&rt, text.as_str(), (*number, *node), &[], rt.alloc(), nodes)?;
     }
     Ok(())
 }

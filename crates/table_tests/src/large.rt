@@ -68,7 +68,14 @@ fn largest(rt: HostRuntime) -> Result<(), Fail> {
     let text = large(rt.alloc())?;
     assert!(rt; text.as_str().starts_with("G\t64\t4096\t12288\n"));
     let sets = large_sets(rt.alloc())?;
-    check_file(&rt, text.as_str(), (0, 0), sets.as_slice(), rt.alloc())
+    check_file(
+        &rt,
+        text.as_str(),
+        (0, 0),
+        sets.as_slice(),
+        rt.alloc(),
+        &"the largest",
+    )
 }
 
 // A refusal's number, the root's first children, and how many more it has.
@@ -89,7 +96,7 @@ fn largest_flawed(rt: HostRuntime) -> Result<(), Fail> {
     let rootless = rootless(rt.alloc())?;
     for (number, first, more) in ROOTS {
         let text = rooted(rootless.as_str(), *first, *more, rt.alloc())?;
-        check_file(&rt, text.as_str(), (*number, 4095), &[], rt.alloc()).note(*first)?;
+        check_file(&rt, text.as_str(), (*number, 4095), &[], rt.alloc(), first)?;
     }
     Ok(())
 }

@@ -72,8 +72,8 @@ fn records(rt: HostRuntime) -> Result<(), Fail> {
             &variables,
             (*number, place),
             &[1, 1, 1],
-        )
-        .note(format_args!("{first} {count}"))?;
+            &format_args!("{first} {count}"),
+        );
     }
     Ok(())
 }
@@ -109,10 +109,15 @@ fn counts(rt: HostRuntime) -> Result<(), Fail> {
             count: 0,
         };
         let nodes = vec![in rt.alloc(); leaf; *nodes]?;
-        check_answer(&rt, nodes.as_slice(), &[], &variables, *due, &[]).note(format_args!(
-            "{} nodes",
-            nodes.len()
-        ))?;
+        check_answer(
+            &rt,
+            nodes.as_slice(),
+            &[],
+            &variables,
+            *due,
+            &[],
+            &format_args!("{} nodes", nodes.len()),
+        );
     }
     Ok(())
 }

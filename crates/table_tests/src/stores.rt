@@ -1,5 +1,6 @@
 //! What a file is read into, and what the check makes of it.
 use std::alloc::Global;
+use std::fmt::Display;
 use std::process::Abort;
 use std::test::Fail;
 use table::check::check as check_table;
@@ -56,6 +57,7 @@ pub(crate) fn check_file(
     due: Refusal,
     sets: &[u64],
     heap: Global,
+    case: &impl Display,
 ) -> Result<(), Fail> {
     let stores = Stores::read(file, heap)?;
     check_answer(
@@ -65,7 +67,9 @@ pub(crate) fn check_file(
         &stores.variables,
         due,
         sets,
-    )
+        case,
+    );
+    Ok(())
 }
 
 /// The check of these parts answers this refusal, or none and these sets of variables.
@@ -76,28 +80,27 @@ pub(crate) fn check_answer(
     variables: &Variables,
     due: Refusal,
     sets: &[u64],
-) -> Result<(), Fail> {
+    case: &impl Display,
+) {
     match check_table(nodes, children, variables) {
         Ok(mentions) => {
-            assert_eq!(rt; (0, 0), due);
-            check_sets(rt, &mentions, sets)
+            assert_eq!(rt; (0, 0), due, "{case}");
+            check_sets(rt, &mentions, sets, case)
         }
         Err(fault) => {
-            assert_eq!(rt; (fault.number(), fault.place()), due);
-            assert_eq!(rt; matches!(fault.layer(), Layer::Table), due.0 >= 8);
-            Ok(())
+            assert_eq!(rt; (fault.number(), fault.place()), due, "{case}");
+            assert_eq!(rt; matches!(fault.layer(), Layer::Table), due.0 >= 8, "{case}");
         }
     }
 }
 
 /// The first nodes mention these sets, and behind them are empty ones.
-fn check_sets(rt: &impl Abort, mentions: &Mentions, due: &[u64]) -> Result<(), Fail> {
+fn check_sets(rt: &impl Abort, mentions: &Mentions, due: &[u64], case: &impl Display) {
     for (i, set) in mentions.sets.iter().enumerate() {
         let wanted = match due.get(i) {
             Some(set) => *set,
             None => 0,
         };
-        assert_eq!(rt; *set, wanted, "node {i}");
+        assert_eq!(rt; *set, wanted, "node {i}: {case}");
     }
-    Ok(())
 }
