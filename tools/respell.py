@@ -11,6 +11,7 @@ import re
 import sys
 
 SIGNATURE = re.compile(r"^\s*(?:(?:abbrev|unfoldable|pub|record|data)\s+)*([^\s(){}\[\].,;:]+)\s+:\s+(?!(?:goal|need)\.)")
+RECORD = re.compile(r"^\s*(?:pub\s+)?(?:record|data)\s+([^\s(){}\[\].,;:]+)\s")
 BROUGHT_IN_AS = re.compile(r"\bas ([^\s(){}\[\].,;:]+)")
 TOKEN = re.compile(r"[^\s(){}\[\].,;:`\"]+")
 ROOT = pathlib.Path(".")
@@ -40,7 +41,7 @@ def own_names():
     names = {}
     for path in antt_files():
         for line in path.read_text().splitlines():
-            match = SIGNATURE.match(line)
+            match = SIGNATURE.match(line) or RECORD.match(line)
             if match and "-" in match.group(1) and not line.lstrip().startswith("--"):
                 names[match.group(1)] = respelled(match.group(1))
     for path in antt_files() + sorted(ROOT.glob("crates/*/src/**/*.rt")):

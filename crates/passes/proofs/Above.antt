@@ -15,7 +15,7 @@ use Rattle.passes.specs.Holding.{Entries, entry, is_free, denies, Keeps}
 use Rattle.passes.specs.Passes.{times, value_at, count, counts}
 use Rattle.passes.specs.Bounding.{Covers}
 use Rattle.passes.proofs.Made.{Way, made, ranked, made_related, upward_made, joined, count_way, plain_way, side_way, count_made}
-use Rattle.passes.proofs.Parts.{Free-in, worth, beneath, side_here, bound_last, free_mentioned, side_is, value_above}
+use Rattle.passes.proofs.Parts.{FreeIn, worth, beneath, side_here, bound_last, free_mentioned, side_is, value_above}
 use Rattle.passes.proofs.Figures.{counts_figure}
 
 -- a product with a zero factor
@@ -95,7 +95,7 @@ module _ {F : Type 0} (R : Semiring F) (laws : Laws R) (rs : Roles) (sheet : Lis
         (fork_upto R rs sheet ss w proper.ordered laws x a b (proper.decisions i x a b is) (f a) (f b) low-a low-b))
         edges low)
 
-    side_covers : (v : ℕ) → Free-in rs ss h i v → Upto R (amount i) (side_here R rs sheet ss h i (w v) v)
+    side_covers : (v : ℕ) → FreeIn rs ss h i v → Upto R (amount i) (side_here R rs sheet ss h i (w v) v)
     side_covers v f = amount_upto (side_way R rs (w v)) (beneath R rs sheet ss h (w v) v) refl
         (λ c m. (below c m).1 v f.of_option f.of_free)
         (λ x on is.
@@ -115,7 +115,7 @@ module _ {F : Type 0} (R : Semiring F) (laws : Laws R) (rs : Roles) (sheet : Lis
       value_covers,
       λ v option untaken. cond_both (about ss i v) _ _ (Upto R (amount i))
           (λ mentioned.
-          let f : Free-in rs ss h i v = record { of_option = option; of_free = untaken; of_node = mentioned } in
+          let f : FreeIn rs ss h i v = record { of_option = option; of_free = untaken; of_node = mentioned } in
           upto_lesser laws _ _ _ value_covers (subst (Upto R _) (sym (side_is R rs sheet ss h proper.ordered i v f (w v))) (side_covers v f)))
           (λ _. value_covers),
     )

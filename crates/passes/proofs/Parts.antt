@@ -18,7 +18,7 @@ use Rattle.passes.proofs.Filters.{kept, filter_empty}
 use Rattle.passes.proofs.Made.{made, made_same, plain_way, side_way, plain_made, side_made}
 
 -- v is a free option that node i mentions
-pub record Free-in (rs : Roles) (ss : List Shape) (h : Entries) (i v : ℕ) : Type 0 where
+pub record FreeIn (rs : Roles) (ss : List Shape) (h : Entries) (i v : ℕ) : Type 0 where
   pub of_option : is_option rs v ≡ true
   pub of_free : is_free (entry h v) ≡ true
   pub of_node : about ss i v ≡ true
@@ -120,17 +120,17 @@ module _ {F : Type 0} (R : Semiring F) (rs : Roles) (sheet : List F) (ss : List 
     about_here v = ap (λ (m : Vars). m v) (about_at ss ordered i)
 
     -- the node is s, which mentions v
-    pub free_mentioned : (v : ℕ) → Free-in rs ss h i v → (s : Shape) → node ss i ≡ s → mention (mentions ss) s v ≡ true
+    pub free_mentioned : (v : ℕ) → FreeIn rs ss h i v → (s : Shape) → node ss i ≡ s → mention (mentions ss) s v ≡ true
     free_mentioned v f s is = subst (λ t. mention (mentions ss) t v ≡ true) is (sym (about_here v) ∙ f.of_node)
 
-    free_in : (v : ℕ) → Among v (free_of R rs sheet (mentions ss) h (node ss i)) → Free-in rs ss h i v
+    free_in : (v : ℕ) → Among v (free_of R rs sheet (mentions ss) h (node ss i)) → FreeIn rs ss h i v
     free_in v m =
         let here = kept (mention (mentions ss) (node ss i)) v (free rs h) m in
         let untaken = kept (λ x. is_free (entry h x)) v (options rs) here.0 in
         record { of_option = (listed_role rs true v untaken.0).1; of_free = untaken.1; of_node = about_here v ∙ here.1 }
 
     -- the side of a free option that the node mentions
-    pub side_is : (v : ℕ) → Free-in rs ss h i v → (b : Bool) → (part i).side b v ≡ side_here i b v
+    pub side_is : (v : ℕ) → FreeIn rs ss h i v → (b : Bool) → (part i).side b v ≡ side_here i b v
     side_is v f b =
         ap (λ (p : Part F). p.side b v) part_at
         ∙ cond-true _ _ R.zero (and_from _ _ f.of_option (and_from _ _ f.of_free (free_mentioned v f (node ss i) refl)))
@@ -145,24 +145,24 @@ module _ {F : Type 0} (R : Semiring F) (rs : Roles) (sheet : List F) (ss : List 
 
     -- what holds of the plain value, and of the least over free options that the node mentions, holds of its value
     by_value : (P : F → Type 0) → P (plain_here i)
-        → ((v : ℕ) (vs : List ℕ) → ((u : ℕ) → Among u (v ∷ vs) → Free-in rs ss h i u) → P (least R (either i v) (map (either i) vs))) → P (worth i)
+        → ((v : ℕ) (vs : List ℕ) → ((u : ℕ) → Among u (v ∷ vs) → FreeIn rs ss h i u) → P (least R (either i v) (map (either i) vs))) → P (worth i)
     by_value P plainly freely = subst (λ (p : Part F). P p.value) (sym part_at) (by (free_of R rs sheet (mentions ss) h (node ss i)) free_in)
       where
-        by : (vs : List ℕ) → ((u : ℕ) → Among u vs → Free-in rs ss h i u) → P (valued i vs)
+        by : (vs : List ℕ) → ((u : ℕ) → Among u vs → FreeIn rs ss h i u) → P (valued i vs)
         by [] f = subst P (sym (valued_here i)) plainly
         by (v ∷ vs) f = freely v vs f
 
     module _ (laws : Laws R) (c : F) where
-      pub value_above : Upto R c (plain_here i) → ((v : ℕ) → Free-in rs ss h i v → (b : Bool) × Upto R c (side_here i b v)) → Upto R c (worth i)
+      pub value_above : Upto R c (plain_here i) → ((v : ℕ) → FreeIn rs ss h i v → (b : Bool) × Upto R c (side_here i b v)) → Upto R c (worth i)
       value_above plainly freely = by_value (Upto R c) plainly (λ v vs f.
           upto_least laws c (either i v) (map (either i) vs) (each v (f v (inl refl))) (mapped (Upto R c) (either i) vs (all_among _ vs (λ u m. each u (f u (inr m))))))
         where
-          each : (v : ℕ) → Free-in rs ss h i v → Upto R c (either i v)
+          each : (v : ℕ) → FreeIn rs ss h i v → Upto R c (either i v)
           each v f =
               let side = freely v f in
               laws.trans _ _ _ (subst (Upto R c) (sym (sided_here i side.0 v)) side.1) (upto_greater laws (λ b. sided i b v) side.0)
 
-      pub value_below : Upto R (plain_here i) c → ((v : ℕ) → Free-in rs ss h i v → (b : Bool) → Upto R (side_here i b v) c) → Upto R (worth i) c
+      pub value_below : Upto R (plain_here i) c → ((v : ℕ) → FreeIn rs ss h i v → (b : Bool) → Upto R (side_here i b v) c) → Upto R (worth i) c
       value_below plainly freely = by_value (λ x. Upto R x c) plainly (λ v vs f.
           let side : (b : Bool) → Upto R (sided i b v) c = λ b. subst (λ x. Upto R x c) (sym (sided_here i b v)) (freely v (f v (inl refl)) b) in
           laws.trans _ _ _ (least_upto laws (either i v) (map (either i) vs)) (greater_upto laws _ _ c (side true) (side false)))

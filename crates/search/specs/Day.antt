@@ -104,7 +104,7 @@ module _ {F : Type 0} (R : Semiring F) (rs : Roles) (ss : List Shape) where
 
 module _ {F : Type 0} (R : Semiring F) (pick : Order F) (rs : Roles) (ss : List Shape) where
   -- select's answer, openings included, and what it means
-  pub record Found-best (b : Book F) (found : Found F) : Type 0 where
+  pub record FoundBest (b : Book F) (found : Found F) : Type 0 where
     pub is_select : found ≡ select R pick rs ss b.sheet b.holds
     pub best : Answers R rs ss b.sheet b.holds found.best
 
@@ -116,7 +116,7 @@ module _ {F : Type 0} (R : Semiring F) (pick : Order F) (rs : Roles) (ss : List 
   Says b (Trial v s) a = (f : F) × (a ≡ Value f) × Bounded R rs ss (with_entry b.holds v (held s)) b.sheet f
   Says b Figure a = (f : F) × (a ≡ Value f) × Counted R rs ss b f
   Says b Bound a = (f : F) × (a ≡ Value f) × Bounded R rs ss b.holds b.sheet f
-  Says b Select a = (found : Found F) × (a ≡ Chosen found) × Found-best b found
+  Says b Select a = (found : Found F) × (a ≡ Chosen found) × FoundBest b found
 
   -- what it is answered, worked out
   abbrev pub reply : Book F → Call F → Answer F
