@@ -64,7 +64,10 @@ fn check_calls<K: Written + Clone>(
     mark: K,
     steps: &[Step],
     heap: Global,
+    case: &str,
 ) -> Result<(), Fail> {
+    let by_number = format!(in heap; "number order: {case}")?;
+    let by_lean = format!(in heap; "strongest lean: {case}")?;
     let plant = Stores::read(PLANT, heap)?;
     let mut sheet = vec![in heap; mark; 4]?;
     let mut work = vec![in heap; mark; 21]?;
@@ -77,6 +80,7 @@ fn check_calls<K: Written + Clone>(
         work.as_mut_slice(),
         steps,
         heap,
+        &by_number,
     )?;
     run_steps(
         rt,
@@ -87,12 +91,12 @@ fn check_calls<K: Written + Clone>(
         work.as_mut_slice(),
         steps,
         heap,
+        &by_lean,
     )
-    .note("strongest lean")
 }
 
 #[test]
 fn calls(rt: HostRuntime) -> Result<(), Fail> {
-    check_calls(&rt, MARK, TALLIES, rt.alloc())?;
-    check_calls(&rt, Peak::Impossible, PEAKS, rt.alloc()).note("peaks")
+    check_calls(&rt, MARK, TALLIES, rt.alloc(), "tallies")?;
+    check_calls(&rt, Peak::Impossible, PEAKS, rt.alloc(), "peaks")
 }

@@ -13,6 +13,7 @@ use search::number_order::NumberOrder;
 use search::order::BranchingOrder;
 use search::strongest_lean::StrongestLean;
 use std::alloc::Global;
+use std::fmt::Display;
 use std::process::Abort;
 use std::test::Fail;
 use table::check::check as check_table;
@@ -53,26 +54,31 @@ const ENDS: &[(usize, &str, &str)] = &[
     (18, "", "0 8 "),
 ];
 
-fn calls_of(steps: &[Step], heap: Global) -> Result<Vec<Call<Tally>>, Fail> {
+fn calls_of(steps: &[Step], heap: Global, case: &impl Display) -> Result<Vec<Call<Tally>>, Fail> {
     let mut calls = Vec::new(heap);
     for (spoken, _) in steps {
         match call_of(*spoken) {
             Some(call) => calls.push(call)?,
-            None => return Err(Fail::new("no call")),
+            None => return Err(Fail::new(format_args!("no call: {case}"))),
         }
     }
     Ok(calls)
 }
 
 // Answers stand in the first places; behind the day's calls the mark stays.
-fn check_answers(rt: &impl Abort, answers: &[Answer<Tally>], heap: Global) -> Result<(), Fail> {
+fn check_answers(
+    rt: &impl Abort,
+    answers: &[Answer<Tally>],
+    heap: Global,
+    case: &impl Display,
+) -> Result<(), Fail> {
     for (i, answer) in answers.iter().enumerate() {
         let due = match DAY.get(i) {
             Some(step) => step.1,
             None => "901",
         };
         let shown = show_answer(*answer, heap)?;
-        assert_eq!(rt; shown.as_str(), due, "call {i}");
+        assert_eq!(rt; shown.as_str(), due, "call {i}: {case}");
     }
     Ok(())
 }
@@ -84,15 +90,16 @@ fn check_day<O: BranchingOrder<Tally>>(
     order: &O,
     end: (usize, &str, &str),
     heap: Global,
+    case: &impl Display,
 ) -> Result<(), Fail> {
     let nodes = plant.nodes.as_slice();
     let children = plant.children.as_slice();
     let table = match check_table(nodes, children, &plant.variables) {
         Ok(sets) => Table::new(nodes, children, plant.variables, sets),
-        Err(_) => return Err(Fail::new("refused")),
+        Err(_) => return Err(Fail::new(format_args!("refused: {case}"))),
     };
     let (places, held, weights) = end;
-    let calls = calls_of(DAY, heap)?;
+    let calls = calls_of(DAY, heap, case)?;
     let mut answers = vec![in heap; Answer::Value(MARK); places]?;
     let mut figures = [MARK; 4];
     let mut work = [MARK; 21];
@@ -106,12 +113,12 @@ fn check_day<O: BranchingOrder<Tally>>(
         calls.as_slice(),
         answers.as_mut_slice(),
     );
-    check_answers(rt, answers.as_slice(), heap)?;
+    check_answers(rt, answers.as_slice(), heap, case)?;
     let shown = show_holds(&holds, heap)?;
-    assert_eq!(rt; shown.as_str(), held, "holds");
+    assert_eq!(rt; shown.as_str(), held, "holds: {case}");
     let sheet = show_figures(&figures, heap)?;
     let due = format!(in heap; "901 901 {weights}")?;
-    assert_eq!(rt; sheet.as_str(), due.as_str(), "sheet");
+    assert_eq!(rt; sheet.as_str(), due.as_str(), "sheet: {case}");
     Ok(())
 }
 
@@ -120,7 +127,21 @@ fn days(rt: HostRuntime) -> Result<(), Fail> {
     let heap = rt.alloc();
     let plant = Stores::read(PLANT, heap)?;
     for end in ENDS {
-        check_day(&rt, &plant, &NumberOrder, *end, heap).note(format_args!("{} places", end.0))?;
+        check_day(
+            &rt,
+            &plant,
+            &NumberOrder,
+            *end,
+            heap,
+            &format_args!("{} places", end.0),
+        )?;
     }
-    check_day(&rt, &plant, &StrongestLean, (20, "+1", "0 8 "), heap).note("strongest lean")
+    check_day(
+        &rt,
+        &plant,
+        &StrongestLean,
+        (20, "+1", "0 8 "),
+        heap,
+        &"strongest lean",
+    )
 }

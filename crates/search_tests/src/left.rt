@@ -52,6 +52,7 @@ fn work_after(
         work.as_mut_slice(),
         &[step],
         heap,
+        &"25 places",
     )?;
     Ok(work)
 }

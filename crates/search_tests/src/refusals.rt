@@ -5,6 +5,7 @@ use plants::files::PLANT;
 use plants::stores::Stores;
 use search::number_order::NumberOrder;
 use std::alloc::Global;
+use std::fmt::Display;
 use std::process::Abort;
 use std::test::Fail;
 
@@ -154,8 +155,14 @@ const CASES: &[Case] = &[
     (4, 6, OPTION_ON, &[("figure", "study 21 at 0")]),
 ];
 
-fn check_case(rt: &impl Abort, plant: &Stores, case: Case, heap: Global) -> Result<(), Fail> {
-    let (figures, places, held, steps) = case;
+fn check_case(
+    rt: &impl Abort,
+    plant: &Stores,
+    entry: Case,
+    heap: Global,
+    case: &impl Display,
+) -> Result<(), Fail> {
+    let (figures, places, held, steps) = entry;
     for step in steps {
         let mut sheet = vec![in heap; MARK; figures]?;
         let mut work = vec![in heap; MARK; places]?;
@@ -168,6 +175,7 @@ fn check_case(rt: &impl Abort, plant: &Stores, case: Case, heap: Global) -> Resu
             work.as_mut_slice(),
             &[*step],
             heap,
+            case,
         )?;
     }
     Ok(())
@@ -177,8 +185,9 @@ fn check_case(rt: &impl Abort, plant: &Stores, case: Case, heap: Global) -> Resu
 fn refusals(rt: HostRuntime) -> Result<(), Fail> {
     let heap = rt.alloc();
     let plant = Stores::read(PLANT, heap)?;
-    for (i, case) in CASES.iter().enumerate() {
-        check_case(&rt, &plant, *case, heap).note(format_args!("case {i}"))?;
+    for (i, entry) in CASES.iter().enumerate() {
+        let case = format!(in heap; "case {i}")?;
+        check_case(&rt, &plant, *entry, heap, &case)?;
     }
     Ok(())
 }

@@ -13,6 +13,7 @@ use search::found::Found;
 use search::number_order::NumberOrder;
 use search::strongest_lean::StrongestLean;
 use std::alloc::Global;
+use std::fmt::Display;
 use std::process::Abort;
 use std::test::Fail;
 use table::check::check as check_table;
@@ -167,10 +168,16 @@ fn open<K: Written>(
     open(table, sheet, work, &branch, levels - 1, on)
 }
 
-fn check_alike<K: Written>(rt: &impl Abort, figure: K, due: K, heap: Global) -> Result<(), Fail> {
+fn check_alike<K: Written>(
+    rt: &impl Abort,
+    figure: K,
+    due: K,
+    heap: Global,
+    case: &impl Display,
+) -> Result<(), Fail> {
     let shown = figure.write(heap)?;
     let wanted = due.write(heap)?;
-    assert_eq!(rt; shown.as_str(), wanted.as_str());
+    assert_eq!(rt; shown.as_str(), wanted.as_str(), "{case}");
     Ok(())
 }
 
@@ -181,28 +188,41 @@ fn check_found<K: Written>(
     number: u64,
     figures: &[Option<K>],
     heap: Global,
+    case: &impl Display,
 ) -> Result<(), Fail> {
-    assert!(rt; found.openings > 0);
+    assert!(rt; found.openings > 0, "{case}");
     let best = highest(number, figures);
     let selection = match found.best {
         Some(selection) => selection,
         None => {
-            assert!(rt; best.no_higher(K::zero()), "none");
-            return Ok(())
-        },
+            assert!(rt; best.no_higher(K::zero()), "none: {case}");
+            return Ok(());
+        }
     };
-    assert!(rt; !best.no_higher(K::zero()), "some");
+    assert!(rt; !best.no_higher(K::zero()), "some: {case}");
     let chosen = number_of(&selection.holds);
-    assert!(rt; is_kept(number, chosen), "kept");
+    assert!(rt; is_kept(number, chosen), "kept: {case}");
     let own = match figures.get(chosen as usize) {
         Some(Some(figure)) => *figure,
-        _ => return Err(Fail::new("no selection")),
+        _ => return Err(Fail::new(format_args!("no selection: {case}"))),
     };
-    check_alike(rt, selection.figure, best, heap).note("best")?;
-    check_alike(rt, selection.figure, own, heap).note("its own")?;
+    check_alike(
+        rt,
+        selection.figure,
+        best,
+        heap,
+        &format_args!("best: {case}"),
+    )?;
+    check_alike(
+        rt,
+        selection.figure,
+        own,
+        heap,
+        &format_args!("its own: {case}"),
+    )?;
     let named = show_holds(&selection.holds, heap)?;
     let options = show_holds(&holds_at(chosen), heap)?;
-    assert_eq!(rt; named.as_str(), options.as_str());
+    assert_eq!(rt; named.as_str(), options.as_str(), "{case}");
     Ok(())
 }
 
@@ -215,28 +235,36 @@ fn check_holds<K: Written>(
     number: u64,
     figures: &[Option<K>],
     heap: Global,
+    case: &impl Display,
 ) -> Result<(), Fail> {
     let holds = holds_at(number);
     let lean = match select(table, &holds, sheet, work, &StrongestLean) {
         Ok(found) => found,
-        Err(_) => return Err(Fail::new("select is refused")),
+        Err(_) => return Err(Fail::new(format_args!("select is refused: {case}"))),
     };
-    check_found(rt, lean, number, figures, heap).note("strongest lean")?;
+    check_found(
+        rt,
+        lean,
+        number,
+        figures,
+        heap,
+        &format_args!("strongest lean: {case}"),
+    )?;
     let found = match select(table, &holds, sheet, work, &NumberOrder) {
         Ok(found) => found,
-        Err(_) => return Err(Fail::new("select is refused")),
+        Err(_) => return Err(Fail::new(format_args!("select is refused: {case}"))),
     };
-    check_found(rt, found, number, figures, heap)?;
+    check_found(rt, found, number, figures, heap, case)?;
     let start = Walk {
         best: K::zero(),
         openings: 0,
     };
     match open(table, sheet, work, &holds, 4, start) {
         Some(end) => {
-            assert_eq!(rt; found.openings, end.openings, "openings");
+            assert_eq!(rt; found.openings, end.openings, "openings: {case}");
             Ok(())
-        },
-        None => Err(Fail::new("the walk is refused")),
+        }
+        None => Err(Fail::new(format_args!("the walk is refused: {case}"))),
     }
 }
 
@@ -268,8 +296,8 @@ fn check_sheet<K: Written + Clone>(
             number,
             figures.as_slice(),
             heap,
-        )
-        .note(format_args!("sheet {text}, holds {number}"))?;
+            &format_args!("sheet {text}, holds {number}"),
+        )?;
     }
     Ok(())
 }
@@ -315,6 +343,7 @@ fn orders(rt: HostRuntime) -> Result<(), Fail> {
         work.as_mut_slice(),
         BY_NUMBER,
         heap,
+        &"number order",
     )?;
     run_steps(
         &rt,
@@ -325,6 +354,6 @@ fn orders(rt: HostRuntime) -> Result<(), Fail> {
         work.as_mut_slice(),
         BY_LEAN,
         heap,
+        &"strongest lean",
     )
-    .note("strongest lean")
 }

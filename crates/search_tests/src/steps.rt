@@ -10,6 +10,7 @@ use search::call::{Answer, Call};
 use search::day::ask;
 use search::order::BranchingOrder;
 use std::alloc::Global;
+use std::fmt::Display;
 use std::process::Abort;
 use std::test::Fail;
 use table::check::check as check_table;
@@ -53,32 +54,48 @@ fn run_step<K: Written, O: BranchingOrder<K>>(
     holds: &mut Holds,
     sheet: &mut Sheet<K>,
     work: &mut [K],
+    number: usize,
     step: Step,
     heap: Global,
+    case: &impl Display,
 ) -> Result<(), Fail> {
     let (spoken, due) = step;
     let call = match call_of(spoken) {
         Some(call) => call,
-        None => return Err(Fail::new("no call")),
+        None => {
+            return Err(Fail::new(format_args!("no call: call {number}: {spoken}: {case}")));
+        }
     };
     let held = show_holds(holds, heap)?;
     let weights = show_figures(sheet.figures, heap)?;
     let worked = show_figures(work, heap)?;
     let answer = ask(table, order, holds, sheet, work, call);
     let shown = show_answer(answer, heap)?;
-    assert_eq!(rt; shown.as_str(), due);
+    assert_eq!(rt; shown.as_str(), due, "call {number}: {spoken}: {case}");
     let refused = is_refused(answer);
     if refused || !may_hold(call) {
         let now = show_holds(holds, heap)?;
-        assert_eq!(rt; now.as_str(), held.as_str(), "holds");
+        assert_eq!(rt;
+            now.as_str(),
+            held.as_str(),
+            "holds: call {number}: {spoken}: {case}"
+        );
     }
     if refused || !may_weigh(call) {
         let now = show_figures(sheet.figures, heap)?;
-        assert_eq!(rt; now.as_str(), weights.as_str(), "sheet");
+        assert_eq!(rt;
+            now.as_str(),
+            weights.as_str(),
+            "sheet: call {number}: {spoken}: {case}"
+        );
     }
     if refused || may_hold(call) || may_weigh(call) {
         let now = show_figures(work, heap)?;
-        assert_eq!(rt; now.as_str(), worked.as_str(), "work table");
+        assert_eq!(rt;
+            now.as_str(),
+            worked.as_str(),
+            "work table: call {number}: {spoken}: {case}"
+        );
     }
     Ok(())
 }
@@ -93,19 +110,19 @@ pub(crate) fn run_steps<K: Written, O: BranchingOrder<K>>(
     work: &mut [K],
     steps: &[Step],
     heap: Global,
+    case: &impl Display,
 ) -> Result<(), Fail> {
     let nodes = stores.nodes.as_slice();
     let children = stores.children.as_slice();
     let table = match check_table(nodes, children, &stores.variables) {
         Ok(sets) => Table::new(nodes, children, stores.variables, sets),
-        Err(_) => return Err(Fail::new("refused")),
+        Err(_) => return Err(Fail::new(format_args!("refused: {case}"))),
     };
     let mut sheet = Sheet { figures };
     for (i, step) in steps.iter().enumerate() {
-        run_step(rt, &table, order, holds, &mut sheet, work, *step, heap).note(format_args!(
-            "call {i}: {}",
-            step.0
-        ))?;
+        run_step(
+            rt, &table, order, holds, &mut sheet, work, i, *step, heap, case,
+        )?;
     }
     Ok(())
 }

@@ -88,23 +88,24 @@ fn check_text<K: Written>(
     rt: &impl Abort,
     plant: &Stores,
     figures: &mut [K],
-    case: Case,
+    entry: Case,
     heap: Global,
+    case: &str,
 ) -> Result<(), Fail> {
     let nodes = plant.nodes.as_slice();
     let children = plant.children.as_slice();
     let table = match check_table(nodes, children, &plant.variables) {
         Ok(sets) => Table::new(nodes, children, plant.variables, sets),
-        Err(_) => return Err(Fail::new("refused")),
+        Err(_) => return Err(Fail::new(format_args!("refused: {case}"))),
     };
-    let (text, due, sheet) = case;
+    let (text, due, sheet) = entry;
     let answer = match read_weights(&table, &mut Sheet { figures }, text.as_bytes()) {
         Ok(_) => String::from_str(heap, "done")?,
         Err(fault) => show_fault(fault, heap)?,
     };
-    assert_eq!(rt; answer.as_str(), due, "{}", text);
+    assert_eq!(rt; answer.as_str(), due, "{text}: {case}");
     let after = show_figures(figures, heap)?;
-    assert_eq!(rt; after.as_str(), sheet, "{}", text);
+    assert_eq!(rt; after.as_str(), sheet, "{text}: {case}");
     Ok(())
 }
 
@@ -113,13 +114,20 @@ fn texts(rt: HostRuntime) -> Result<(), Fail> {
     let heap = rt.alloc();
     let plant = Stores::read(PLANT, heap)?;
     for case in TALLIES {
-        check_text(&rt, &plant, &mut [MARK; 6], *case, heap)?;
+        check_text(&rt, &plant, &mut [MARK; 6], *case, heap, "tallies")?;
     }
     for case in SHORT {
-        check_text(&rt, &plant, &mut [MARK; 3], *case, heap).note("short")?;
+        check_text(&rt, &plant, &mut [MARK; 3], *case, heap, "short")?;
     }
     for case in PEAKS {
-        check_text(&rt, &plant, &mut [Peak::Impossible; 4], *case, heap).note("peaks")?;
+        check_text(
+            &rt,
+            &plant,
+            &mut [Peak::Impossible; 4],
+            *case,
+            heap,
+            "peaks",
+        )?;
     }
     Ok(())
 }
