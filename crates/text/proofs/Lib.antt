@@ -8,3 +8,4 @@ pub mod Limits
 pub mod Sections
 pub mod Runs
 pub mod Printable
+pub mod Filled

@@ -1,6 +1,7 @@
 use Rattle.std.proofs.Common.{length, drop, string_bytes, ◌∙◌}
 use Rattle.std.proofs.lemmas.Result.{IfOk-from_err}
-use Rattle.quote.proofs.Reporting.{kept, refused_report, plain_names, accepted_report}
+use Rattle.text.proofs.Filled.{kept, plain_names}
+use Rattle.quote.proofs.Reporting.{refused_report, accepted_report}
 use Rattle.quote.proofs.report.report.Goals as goal
 
 pub returns-in_err-children : goal.returns-in_err-children

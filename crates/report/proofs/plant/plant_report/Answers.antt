@@ -1,6 +1,7 @@
 use Rattle.std.proofs.Common.{length, drop, string_bytes, ◌∙◌}
 use Rattle.std.proofs.lemmas.Result.{IfOk-from_err}
-use Rattle.report.proofs.Filing.{kept, plain_names, refused_file, accepted_file}
+use Rattle.text.proofs.Filled.{kept, plain_names}
+use Rattle.report.proofs.Filing.{refused_file, accepted_file}
 use Rattle.report.proofs.plant.plant_report.Goals as goal
 
 pub returns-in_err-children : goal.returns-in_err-children

@@ -1,6 +1,7 @@
 use Rattle.std.proofs.Common.{length, drop, string_bytes, ◌∙◌}
 use Rattle.std.proofs.lemmas.Result.{IfOk-from_err}
-use Rattle.workday.proofs.Telling.{kept, read_told, unread_told}
+use Rattle.text.proofs.Filled.{kept}
+use Rattle.workday.proofs.Telling.{read_told, unread_told}
 use Rattle.workday.proofs.story.tell.Goals as goal
 
 pub returns-in_err-children : goal.returns-in_err-children
