@@ -1,5 +1,6 @@
 //! What a file is read into.
 ghost use Rattle.std.specs.Prelude.{◌≡◌, true, IfOk};
+ghost use Rattle.plants.specs.Parts.{ArePartsOf};
 ghost use Rattle.text.specs.Format.{listed, named_printable};
 ghost use Rattle.text.specs.Lines.{every};
 
@@ -25,7 +26,8 @@ pub struct Stores {
 impl Stores {
     /// A file's parts: so much of the stores as its counts say.
     pub fn read(file: &str, heap: Global) -> Result<Stores, Fail>
-        ensures { IfOk result (λ s. every named_printable (listed s.variables) ≡ true) }
+        ensures parts { IfOk result (λ s. ArePartsOf file.now s.nodes.items s.children.items s.variables) }
+        ensures names { IfOk result (λ s. every named_printable (listed s.variables) ≡ true) }
     {
         let mut nodes = vec![in heap; BLANK; 4096]?;
         let mut children = vec![in heap; 0; 12288]?;
