@@ -1,5 +1,5 @@
 -- Lemmas on what the program prints. Assumes nothing.
-use Rattle.std.proofs.Common.{◌≡◌, ℕ, ◌+◌, ◌<◌, ◌≤◌, List, [], ◌∷◌, ◌++◌, length, get_or, drop, IfOk, Ok, Err, codes, IsAscii, Result, sym, refl, ap, ◌∙◌, subst, arith}
+use Rattle.std.proofs.Common.{◌≡◌, ℕ, ◌+◌, ◌<◌, ◌≤◌, List, [], ◌∷◌, ◌++◌, length, get_or, drop, IfOk, Ok, Err, codes, Result, sym, refl, ap, ◌∙◌, arith}
 use Rattle.std.proofs.lemmas.List.{at_drop_more, length-take}
 use Rattle.text.specs.Format.{options, listed}
 use Rattle.text.proofs.Says.{options_within as options_few}
@@ -9,7 +9,6 @@ use Rattle.text.specs.declared.record.Form.{Form}
 use Rattle.text.specs.declared.record.Form.TheVariants.{Literal, And, Fork, True, False}
 use Rattle.text.specs.declared.record.Node.{Node}
 use Rattle.quote.specs.declared.report.Forms.{Forms}
-use Rattle.text.specs.Format.{spelled}
 use Rattle.text.specs.declared.record.Contents.{Contents}
 use Rattle.quote.specs.Report.{with_form, total, no_forms, forms_on, forms_of, fields_onto, line_onto, text_of, counted, counts_of, described, described_from, contents_of, PlainNames}
 
@@ -46,9 +45,6 @@ text_then [] ms = refl
 text_then (l ∷ ls) ms = ap (line_onto l) (text_then ls ms) ∙ sym (line_then l (text_of ls) (text_of ms))
 
 -- one variable more
-
-pub plain_at : (xs : List Variable) (i : ℕ) (v : Variable) → i < length xs → v ≡ get_or xs i v → PlainNames xs → IsAscii (spelled v.name)
-plain_at xs i v lt is plain = let P : Variable → Type 0 = λ w. IsAscii (spelled w.name) in subst P (sym is) (plain i v lt)
 
 described_more : (xs : List Variable) (i : ℕ) (v : Variable) → i < length xs → v ≡ get_or xs i v → text_of (described_from (i + 1) (drop i xs)) ≡ text_of (described (codes "variable") (i + 1) v ∷ []) ++ text_of (described_from (i + 1 + 1) (drop (i + 1) xs))
 described_more xs i v lt is =

@@ -1,6 +1,6 @@
 -- What is printed for a table, from what is printed for the check's answer. Assumes nothing.
-use Rattle.std.proofs.Common.{◌≡◌, ℕ, ◌+◌, ◌-◌, ◌<◌, ◌≤◌, Bool, true, false, cond, List, [], ◌∷◌, ◌++◌, length, get_or, drop, IfOk, Ok, Err, codes, Result, sym, ap, ◌∙◌, subst, arith}
-use Rattle.std.proofs.lemmas.List.{at_drop_more, length-map, length-take}
+use Rattle.std.proofs.Common.{◌≡◌, ℕ, ◌+◌, ◌-◌, ◌<◌, Bool, true, false, cond, List, [], ◌∷◌, ◌++◌, length, get_or, drop, IfOk, Ok, Err, codes, Result, sym, ap, ◌∙◌, subst}
+use Rattle.std.proofs.lemmas.List.{at_drop_more, length-map}
 use Rattle.text.specs.Format.{listed}
 use Rattle.text.specs.declared.record.Variable.{Variable}
 use Rattle.text.specs.declared.record.Variables.{Variables}
@@ -20,9 +20,6 @@ use Rattle.quote.proofs.Listing.{append_assoc, text_then}
 
 pub root_said : (t : Table) (v : ℕ) (b : Bool) → b ≡ about (circuit t) (length t.nodes.now - 1) v → root_set (circuit t) v ≡ b
 root_said t v b e = ap (λ n. about (circuit t) (n - 1) v) (length-map t.nodes.now (shape t.children.now)) ∙ sym e
-
-pub variables_few : (vs : Variables) → length (listed vs) ≤ 64
-variables_few vs = omega (arith, length-take vs.count vs.all, vs.fits)
 
 -- one variable more, with what was printed before it
 

@@ -1,21 +1,14 @@
 -- Lemmas on the printed lines. Assumes nothing.
-use Rattle.std.proofs.Common.{◌≡◌, ℕ, ◌+◌, ◌<◌, ◌≤◌, true, false, cond, ◌&&◌, List, [], ◌∷◌, ◌++◌, length, get_or, drop, IfOk, Some, codes, IsAscii, decimal, Result, sym, refl, ap, ◌∙◌, subst, append_assoc, arith}
+use Rattle.std.proofs.Common.{◌≡◌, ℕ, ◌+◌, ◌<◌, true, false, cond, ◌&&◌, List, [], ◌∷◌, ◌++◌, length, get_or, drop, IfOk, Some, codes, decimal, Result, sym, refl, ap, ◌∙◌, append_assoc}
 use Rattle.std.proofs.lemmas.Result.{IfOk-weaker}
-use Rattle.std.proofs.lemmas.List.{at_drop_more, length-take}
-use Rattle.text.specs.Format.{spelled, listed}
+use Rattle.std.proofs.lemmas.List.{at_drop_more}
+use Rattle.text.specs.Format.{spelled}
 use Rattle.text.specs.declared.record.Variable.{Variable}
-use Rattle.text.specs.declared.record.Variables.{Variables}
 use Rattle.table.specs.Nodes.{is_option_role}
 use Rattle.passes.specs.Holding.{Entries, selected}
 use Rattle.search.specs.declared.found.Found.{Found}
 use Rattle.search.specs.declared.found.Selection.{Selection}
 use Rattle.report.specs.Report.{fields_onto, line_onto, text_of, behind_tabs, PlainNames, names_on, bound_line, best_text, best_names, selection_line, report_of}
-
-pub variables_few : (vs : Variables) → length (listed vs) ≤ 64
-variables_few vs = omega (arith, length-take vs.count vs.all, vs.fits)
-
-pub plain_at : (xs : List Variable) (i : ℕ) (v : Variable) → i < length xs → v ≡ get_or xs i v → PlainNames xs → IsAscii (spelled v.name)
-plain_at xs i v lt is plain = let P : Variable → Type 0 = λ w. IsAscii (spelled w.name) in subst P (sym is) (plain i v lt)
 
 -- one variable more, with the names before it
 

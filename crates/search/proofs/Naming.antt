@@ -1,9 +1,8 @@
 -- A lawful order names a free option. Assumes nothing.
-use Rattle.std.proofs.Common.{◌≡◌, ℕ, ◌<◌, true, false, eqb, List, [], ◌∷◌, map, sym, refl, ap, ◌∙◌, inl, inr, not-suc-le-zero}
-use Rattle.std.proofs.lemmas.Bool.{or_cases, eqb-true, both_ways}
+use Rattle.std.proofs.Common.{◌≡◌, ℕ, ◌<◌, true, false, List, [], ◌∷◌, map, sym, refl, ap, ◌∙◌, not-suc-le-zero}
+use Rattle.std.proofs.lemmas.Bool.{both_ways}
 use Rattle.kinds.specs.Semiring.{Semiring}
 use Rattle.table.specs.Circuit.{Shape, Vars}
-use Rattle.table.specs.Facts.{Among}
 use Rattle.table.specs.Sound.{Roles, options}
 use Rattle.passes.specs.Holding.{Entries, entry, is_free, free}
 use Rattle.passes.specs.Passes.{Part, root_part}
@@ -11,15 +10,9 @@ use Rattle.passes.specs.declared.holds.Entry.{Entry}
 use Rattle.passes.specs.declared.holds.Entry.TheVariants.{Free, On, Off}
 use Rattle.passes.proofs.Filters.{kept}
 use Rattle.search.specs.Orders.{Lean, Order, Lawful, numbers, rising, listed}
+use Rattle.search.specs.Rising.{listed_among}
 use Rattle.search.specs.Select.{lean_of, named, leans}
 use Rattle.search.specs.Rising.{free_rising}
-
-listed_among : (v : ℕ) (xs : List ℕ) → listed v xs ≡ true → Among v xs
-listed_among v [] e = absurd (both_ways false refl e)
-listed_among v (x ∷ xs) e = elim (or_cases (eqb v x) (listed v xs) e) [
-  | inl same ↦ inl (sym (eqb-true v x same))
-  | inr more ↦ inr (listed_among v xs more)
-]
 
 entry_free : (e : Entry) → is_free e ≡ true → e ≡ Free
 entry_free Free t = refl

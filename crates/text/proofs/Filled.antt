@@ -1,15 +1,16 @@
 -- What the reader leaves in stores that were made for it, and that accepted names are ASCII: for crates that lend such
 -- stores and print what was read. Assumes nothing.
-use Rattle.std.proofs.Common.{◌≡◌, ℕ, zero, suc, ◌<◌, true, ◌&&◌, eqb, leb, List, [], ◌∷◌, ◌++◌, length, take, replicate, get_or, IsAscii, Result, ap, ◌∙◌, ⊎_elim, arith}
+use Rattle.std.proofs.Common.{◌≡◌, ℕ, zero, suc, ◌<◌, ◌≤◌, true, ◌&&◌, eqb, leb, List, [], ◌∷◌, ◌++◌, length, take, replicate, get_or, IsAscii, Result, sym, ap, ◌∙◌, subst, ⊎_elim, arith}
 use Rattle.std.proofs.lemmas.Str.Ascii.{IsAscii-nil, IsAscii-cons}
-use Rattle.std.proofs.lemmas.List.{length-replicate, take_at}
+use Rattle.std.proofs.lemmas.List.{length-replicate, length-take, take_at}
 use Rattle.std.proofs.lemmas.Bool.{and_parts, or_cases, eqb-true, leb-true}
 use Rattle.text.specs.Lines.{every, printable}
-use Rattle.text.specs.Format.{Rooms, rooms_for, file_says, overwritten, spelled, named_printable}
+use Rattle.text.specs.Format.{Rooms, rooms_for, file_says, overwritten, listed, spelled, named_printable}
 use Rattle.text.specs.declared.fault.Fault.{Fault}
 use Rattle.text.specs.declared.record.Contents.{Contents}
 use Rattle.text.specs.declared.record.Node.{Node}
 use Rattle.text.specs.declared.record.Variable.{Variable}
+use Rattle.text.specs.declared.record.Variables.{Variables}
 
 -- a store that the reader wrote into, as its owner sees it afterwards
 pub kept : {A : Type 0} (after last rest : List A) (len n : ℕ) → after ≡ take len (last ++ rest) → length last ≡ n → n ≡ len → after ≡ last
@@ -53,3 +54,10 @@ pub plain_names : (vs : List Variable) → every named_printable vs ≡ true →
 plain_names [] h k d l = absurd (omega arith)
 plain_names (v ∷ vs) h zero d l = printable_ascii (spelled v.name) (and_parts (named_printable v) (every named_printable vs) h).0
 plain_names (v ∷ vs) h (suc k) d l = plain_names vs (and_parts (named_printable v) (every named_printable vs) h).1 k d (omega arith)
+
+pub plain_at : (vs : List Variable) (i : ℕ) (v : Variable) → i < length vs → v ≡ get_or vs i v
+    → ((k : ℕ) (d : Variable) → k < length vs → IsAscii (spelled (get_or vs k d).name)) → IsAscii (spelled v.name)
+plain_at vs i v lt is plain = let P : Variable → Type 0 = λ w. IsAscii (spelled w.name) in subst P (sym is) (plain i v lt)
+
+pub variables_few : (vs : Variables) → length (listed vs) ≤ 64
+variables_few vs = omega (arith, length-take vs.count vs.all, vs.fits)

@@ -4,8 +4,8 @@ use Rattle.std.proofs.lemmas.List.{at_drop_all, append-nil}
 use Rattle.text.specs.declared.record.Variable.{Variable}
 use Rattle.table.specs.Whole.{circuit}
 use Rattle.quote.specs.Report.{text_of, root_set, mentioned_from, PlainNames}
-use Rattle.quote.proofs.Listing.{plain_at}
-use Rattle.quote.proofs.Tabled.{root_said, variables_few, in_root, not_in_root}
+use Rattle.text.proofs.Filled.{variables_few, plain_at}
+use Rattle.quote.proofs.Tabled.{root_said, in_root, not_in_root}
 use Rattle.quote.proofs.report.root_text.Goals as goal
 use Rattle.quote.proofs.report.root_text.Goals.{then-does_mention+in_ok-line+in_ok-push_str, else-does_mention}
 

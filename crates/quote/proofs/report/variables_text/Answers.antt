@@ -1,7 +1,8 @@
 use Rattle.std.proofs.Common.{◌+◌, ◌++◌, string_bytes, sym, ap, ◌∙◌}
 use Rattle.std.proofs.lemmas.List.{at_drop_all, append-nil}
 use Rattle.quote.specs.Report.{text_of, described_from}
-use Rattle.quote.proofs.Listing.{plain_at, variables_more}
+use Rattle.text.proofs.Filled.{plain_at}
+use Rattle.quote.proofs.Listing.{variables_more}
 use Rattle.quote.proofs.report.variables_text.Goals as goal
 
 pub loop-i-init : goal.loop-i-init

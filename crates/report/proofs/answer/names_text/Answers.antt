@@ -2,7 +2,8 @@ use Rattle.std.proofs.Common.{◌≡◌, ◌+◌, List, ◌++◌, length, drop, 
 use Rattle.std.proofs.lemmas.List.{at_drop_all, append-nil}
 use Rattle.text.specs.declared.record.Variable.{Variable}
 use Rattle.report.specs.Report.{behind_tabs, names_on, PlainNames}
-use Rattle.report.proofs.Naming.{variables_few, plain_at, named, unnamed}
+use Rattle.text.proofs.Filled.{variables_few, plain_at}
+use Rattle.report.proofs.Naming.{named, unnamed}
 use Rattle.report.proofs.answer.names_text.Goals as goal
 use Rattle.report.proofs.answer.names_text.Goals.{then-is_on+in_ok-field+in_ok-push_str, else-is_on}
 
