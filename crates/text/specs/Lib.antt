@@ -3,3 +3,4 @@ pub mod Numerals
 pub mod Faults
 pub mod Format
 pub mod Steps
+pub mod Shown

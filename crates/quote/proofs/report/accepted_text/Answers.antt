@@ -1,13 +1,20 @@
-use Rattle.std.proofs.Common.{string_bytes}
-use Rattle.std.proofs.lemmas.Result.{IfOk-from_err}
-use Rattle.quote.proofs.Tabled.{accepted_printed}
+use Rattle.std.proofs.Common.{◌≡◌, List, string_bytes, ◌∙◌, subst}
+use Rattle.std.proofs.lemmas.Result.{IfOk-weaker}
+use Rattle.text.specs.Shown.{text_of}
+use Rattle.text.specs.declared.record.Node.{Node}
+use Rattle.quote.specs.Report.{contents_of}
+use Rattle.quote.proofs.Listing.{accepted_parts}
 use Rattle.quote.proofs.report.accepted_text.Goals as goal
-
-pub returns-in_err-table : goal.returns-in_err-table
-returns-in_err-table c = IfOk-from_err c.from_residual-in_err-table.result _ c.from_residual-in_err-table.ensures.0
 
 pub returns : goal.returns
 returns c =
-    accepted_printed string_bytes c.format.result c.args.contents.now c.args.nodes.now c.args.children.now c.args.mentions
-    (string_bytes c.in_ok-said.said) (string_bytes c.in_ok-table.table)
-    c.requires c.in_ok-said.ensures c.in_ok-table.ensures c.format.ensures.ok
+    let p = c.args.parts.now in
+    let t = c.new-table.ensures in
+    let P : List Node → Type 0 = λ ns. string_bytes c.in_ok-said.said ≡ text_of (contents_of p.contents ns) in
+    IfOk-weaker c.format.result _ _ (λ s printed plain.
+    printed
+    ∙ accepted_parts p.contents p.nodes.items p.children.items c.args.mentions c.requires c.new-table.result t.variables
+    (t.nodes ∙ c.deref-2.ensures.value) (t.children ∙ c.deref-3.ensures.value)
+    (string_bytes c.in_ok-said.said) (string_bytes c.in_ok-root.root)
+    (subst P c.deref.ensures.value (c.in_ok-said.ensures plain)) c.in_ok-root.ensures plain)
+    c.format.ensures.ok
