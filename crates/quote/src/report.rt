@@ -12,6 +12,7 @@ use table::mentions::Mentions;
 use table::table::Table;
 use text::reader::read_table;
 use text::record::{Contents, Form, Name, Node, Role, Variable, Variables};
+use text::refusal::Refusal;
 
 /// How many node records the program has room for.
 const NODE_ROOM: usize = 4096;

@@ -10,4 +10,5 @@ pub mod numeral;
 pub mod progress;
 pub mod reader;
 pub mod record;
+pub mod refusal;
 pub mod variables;
