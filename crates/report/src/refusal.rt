@@ -4,6 +4,7 @@ ghost use Rattle.report.specs.Report.{text_of, refusal};
 
 use search::fault::Fault;
 use std::alloc::{AllocError, Global};
+use text::refusal::Refusal;
 
 /// The line of a refusal: its number and its place.
 pub fn refusal_line(heap: Global, fault: Fault) -> Result<String, AllocError>

@@ -5,6 +5,7 @@ use std::process::Abort;
 use text::fault::{Fault, Layer};
 use text::reader::read_table;
 use text::record::{Contents, Form, Node};
+use text::refusal::Refusal;
 
 /// A node as text and numbers: what it is, its variable or 0, where its children begin, and
 /// how many they are.
