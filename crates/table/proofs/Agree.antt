@@ -1,9 +1,11 @@
 -- What the sets of the nodes before a node say of it is what the circuit says. Assumes nothing.
-use Rattle.std.proofs.Common.{◌≡◌, ℕ, ◌<◌, ◌≤◌, Bool, true, false, cond, ◌&&◌, ◌||◌, eqb, ltb, ◌⊎◌, List, [], ◌∷◌, length, get_or, take, None, Option, sym, refl, ap, ◌∙◌, ap₂, inl, inr, arith}
+use Rattle.std.proofs.Common.{◌≡◌, ℕ, ◌<◌, ◌≤◌, Bool, true, false, cond, ◌&&◌, ◌||◌, eqb, ltb, List, [], ◌∷◌, length, get_or, take, None, Option, sym, refl, ap, ◌∙◌, ap₂, arith}
 use mathlib.Core.Path.{fun_ext}
 use lib.Bits.{bit_and, bit_or}
+use Rattle.std.proofs.lemmas.Cmp.{nat_eq_equiv}
+use Rattle.std.proofs.Math.Bool.{and-true, and-false, or-false, or_assoc}
 use Rattle.std.proofs.lemmas.List.{length-map, get_or-take, get_or-map}
-use Rattle.std.proofs.lemmas.Bool.{and_parts, and_from, ltb-true, leb-true, le-leb, eq-eqb, ne_eqb, cases_eq}
+use Rattle.std.proofs.lemmas.Bool.{and_parts, ltb-true, leb-true}
 use Rattle.text.specs.declared.record.Form.{Form}
 use Rattle.text.specs.declared.record.Form.TheVariants.{Literal, And, Fork, True, False}
 use Rattle.text.specs.declared.record.Node.{Node}
@@ -13,9 +15,9 @@ use Rattle.table.specs.Circuit.{Shape, lit, all, fork, top, bottom, Vars, every,
 use Rattle.table.specs.Sound.{Roles, known, none, is_leaf, has_leaf, unless, flaw_at}
 use Rattle.table.specs.Nodes.{shape_by, shape, shapes}
 use Rattle.table.specs.Sets.{mask}
-use Rattle.table.specs.Masks.{under, nothing, bit, has_bit, chance_mask, apart_masks, blank, literal_sets, with_child, with_children, and_flaw, fork_flaw, flaw_by, steady, sets_by}
+use Rattle.table.specs.Masks.{under, nothing, bit, has_bit, chance_mask, apart_masks, blank, literal_sets, with_child, with_children, and_flaw, fork_flaw, flaw_by, sets_by}
 use Rattle.table.specs.declared.known.NodeSets.{NodeSets}
-use Rattle.table.proofs.Packs.{packed_one, packed_or, mask_none, has_bit_is, apart_is, or_assoc, or_none}
+use Rattle.table.proofs.Packs.{packed_one, packed_or, mask_none, has_bit_is, apart_is}
 use Rattle.table.proofs.Chances.{even_is}
 
 -- the variables whose literal that is on (or off) a node has
@@ -45,9 +47,6 @@ pub record Known (rs : Roles) (ss : List Shape) (i : ℕ) (before : List NodeSet
 known_bounds : (n v : ℕ) → known n v ≡ true → (0 < v) × (v ≤ n)
 known_bounds n v h = let both = and_parts _ _ h in (ltb-true 0 v both.0, leb-true v n both.1)
 
-known_more : (n m v : ℕ) → n ≤ m → known n v ≡ true → known m v ≡ true
-known_more n m v l h = let both = and_parts _ _ h in and_from _ _ both.0 (let k = leb-true v n both.1 in le-leb v m (omega arith))
-
 unless_same : (ok : Bool) (f : Flaw) (x y : Option Flaw) → (ok ≡ true → x ≡ y) → unless ok f x ≡ unless ok f y
 unless_same true f x y h = h refl
 unless_same false f x y h = refl
@@ -56,33 +55,10 @@ unless_none : (ok : Bool) (f : Flaw) (x : Option Flaw) → unless ok f x ≡ Non
 unless_none true f x e = refl
 unless_none false f x e = cc
 
--- a node with no flaw
-pub steady_when : (n k : ℕ) (before : List NodeSets) (s : Shape) → n ≤ 64 → flaw_by n k before s ≡ None → steady 64 (length before) s ≡ true
-steady_when n k before (lit v b) l e = known_more n 64 v l (unless_none (known n v) flaw.Variable None e)
-steady_when n k before (all cs) l e = unless_none (every (under (length before)) cs) flaw.Order _ e
-steady_when n k before (fork v a b) l e = unless_none (ltb a (length before) && ltb b (length before)) flaw.Order _ e
-steady_when n k before top l e = refl
-steady_when n k before bottom l e = refl
-
-eqb_swap : (x y : ℕ) → eqb x y ≡ eqb y x
-eqb_swap x y = by (cases_eq x y)
-  where
-    by : (x ≡ y) ⊎ (x ≡ y → ⊥) → eqb x y ≡ eqb y x
-    by (inl e) = eq-eqb x y e ∙ sym (eq-eqb y x (sym e))
-    by (inr n) = ne_eqb x y n ∙ sym (ne_eqb y x (λ e. n (sym e)))
-
-and_true : (b : Bool) → b ≡ (b && true)
-and_true true = refl
-and_true false = refl
-
-and_false : (b : Bool) → false ≡ (b && false)
-and_false true = refl
-and_false false = refl
-
 -- a literal's own set
 literal_set : (n x : ℕ) (t : Bool) → cond t (mask n (λ y. eqb y x)) 0 ≡ mask n (λ v. eqb x v && t)
-literal_set n x true = ap (mask n) (fun_ext (λ y. eqb_swap y x ∙ and_true (eqb x y)))
-literal_set n x false = sym (mask_none n) ∙ ap (mask n) (fun_ext (λ y. and_false (eqb x y)))
+literal_set n x true = ap (mask n) (fun_ext (λ y. nat_eq_equiv.symm y x ∙ sym (and-true (eqb x y))))
+literal_set n x false = sym (mask_none n) ∙ ap (mask n) (fun_ext (λ y. sym (and-false (eqb x y))))
 
 module _ (rs : Roles) (ss : List Shape) (i : ℕ) (before : List NodeSets) (known_is : Known rs ss i before) where
   and_same : (cs : List ℕ) → and_flaw before cs ≡ flaw_at rs ss (mentions ss) i (all cs)
@@ -137,7 +113,7 @@ module _ (n : ℕ) where
   -- a child that is no literal
   mentions_more : (m a b d : Vars)
       → ◌≡◌ {A = NodeSets} (record { mentions = bit_or (mask n m) (mask n d); on = mask n a; off = mask n b }) (sets n (λ x. m x || d x) (λ x. a x || false) (λ x. b x || false))
-  mentions_more m a b d = λ j. record { mentions = packed_or 1 n m d j; on = mask n (λ x. sym (or_none (a x)) j); off = mask n (λ x. sym (or_none (b x)) j) }
+  mentions_more m a b d = λ j. record { mentions = packed_or 1 n m d j; on = mask n (λ x. sym (or-false (a x)) j); off = mask n (λ x. sym (or-false (b x)) j) }
 
 module _ (rs : Roles) (store : List ℕ) (ns : List Node) where
   abbrev ss : List Shape
@@ -173,7 +149,7 @@ module _ (rs : Roles) (store : List ℕ) (ns : List Node) where
     children_seen : (m a b : Vars) (cs : List ℕ) → every (under i) cs ≡ true
         → with_children (sets n m a b) ns before cs
         ≡ sets n (λ x. m x || some (λ c. get_or done c none x) cs) (λ x. a x || some (λ c. is_leaf x true (get_or ss c bottom)) cs) (λ x. b x || some (λ c. is_leaf x false (get_or ss c bottom)) cs)
-    children_seen m a b [] e = same_sets n m a b _ _ _ (λ x. sym (or_none (m x))) (λ x. sym (or_none (a x))) (λ x. sym (or_none (b x)))
+    children_seen m a b [] e = same_sets n m a b _ _ _ (λ x. sym (or-false (m x))) (λ x. sym (or-false (a x))) (λ x. sym (or-false (b x)))
     children_seen m a b (c ∷ cs) e =
         let parts = and_parts (ltb c i) (every (under i) cs) e in
         let l = ltb-true c i parts.0 in

@@ -1,6 +1,7 @@
 -- The set of the chances. Assumes nothing.
 use Rattle.std.proofs.Common.{◌≡◌, ℕ, ◌+◌, ◌*◌, ◌/◌, ◌%◌, ◌^◌, max, List, map, reverse, ◌<◌, ◌≤◌, Bool, true, false, cond, ◌&&◌, eqb, [], ◌∷◌, length, sym, refl, ap, ◌∙◌, ap₂, add-zero, pow-suc, arith, pow_mono}
 use lib.Bits.{bit_and, bit_or, or_step}
+use Rattle.std.proofs.Math.Bool.{and-true}
 use Rattle.std.specs.Int.Bits.{or_zero_r}
 use Rattle.std.specs.List.{fold}
 use Rattle.std.proofs.lemmas.List.Sums.{fold-append}
@@ -62,10 +63,6 @@ same_off true false = refl
 same_off false true = refl
 same_off false false = refl
 
-and_on : (a : Bool) → (a && true) ≡ a
-and_on true = refl
-and_on false = refl
-
 -- the branches of a fork mention the same chances
 pub even_is : (i : ℕ) (rs : Roles) (a b : Vars)
     → eqb (bit_and (packed i a (length rs)) (chance_mask rs)) (bit_and (packed i b (length rs)) (chance_mask rs)) ≡ alike (from i false rs) a b
@@ -82,7 +79,7 @@ even_is i (false ∷ rs) a b =
     let q = packed (i + 1) b (length rs) in
     let k = chance_mask rs in
     ap₂ eqb (and_bit p k (a i) true) (and_bit q k (b i) true) ∙ same_bit (bit_and p k) (bit_and q k) (a i && true) (b i && true)
-    ∙ ap₂ ◌&&◌ (ap₂ same (and_on (a i)) (and_on (b i))) (even_is (i + 1) rs a b)
+    ∙ ap₂ ◌&&◌ (ap₂ same (and-true (a i)) (and-true (b i))) (even_is (i + 1) rs a b)
 
 all_off : (a : Bool) → same (a && false) false ≡ true
 all_off true = refl

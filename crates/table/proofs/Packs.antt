@@ -1,6 +1,7 @@
 -- Sets of variables as bits of a number. Assumes nothing.
 use Rattle.std.proofs.Common.{◌≡◌, ℕ, zero, suc, ◌+◌, ◌-◌, ◌*◌, ◌/◌, ◌%◌, ◌^◌, ◌<◌, ◌≤◌, min, max, Bool, true, false, cond, not, ◌&&◌, ◌||◌, eqb, ltb, ◌⊎◌, List, [], ◌∷◌, map, get_or, sym, refl, ap, ◌∙◌, ap₂, inl, inr, pow-suc, arith}
 use mathlib.Core.Path.{fun_ext}
+use Rattle.std.proofs.Math.Bool.{and-true, and-false, not-not}
 use Rattle.std.proofs.Math.ListN.{get_or-map as get_or-mapped}
 use lib.Bits.{bit_and, bit_or, and_step, or_step}
 use Rattle.std.proofs.lemmas.Bool.{and_parts, ltb-true, eq-eqb, ne_eqb, cases_order, cases_eq}
@@ -119,21 +120,9 @@ packed_one i (suc k) v l m = by (cases_order i v) (λ g. packed_one (i + 1) k v 
     by (inr (inr g)) more = absurd (far g l)
 
 -- whether a variable is in a set
-and_false : (b : Bool) → (b && false) ≡ false
-and_false true = refl
-and_false false = refl
-
-and_true : (b : Bool) → (b && true) ≡ b
-and_true true = refl
-and_true false = refl
-
-not_not : (b : Bool) → not (not b) ≡ b
-not_not true = refl
-not_not false = refl
-
 past_only : (i k v : ℕ) (m : Vars) → v < i → every (λ x. not (m x && eqb x v)) (up_to i k) ≡ true
 past_only i zero v m l = refl
-past_only i (suc k) v m l = ap₂ ◌&&◌ (ap (λ b. not (m i && b)) (ne_eqb i v (omega arith)) ∙ ap not (and_false (m i))) (past_only (i + 1) k v m (omega arith))
+past_only i (suc k) v m l = ap₂ ◌&&◌ (ap (λ b. not (m i && b)) (ne_eqb i v (omega arith)) ∙ ap not (and-false (m i))) (past_only (i + 1) k v m (omega arith))
 
 only : (i k v : ℕ) (m : Vars) → i ≤ v → v < i + k → every (λ x. not (m x && eqb x v)) (up_to i k) ≡ not (m v)
 only i zero v m l h = absurd (far l h)
@@ -147,10 +136,10 @@ only i (suc k) v m l h = by (cases_order i v) (λ g. only (i + 1) k v m (let q :
 
     by : (i ≡ v) ⊎ ((i < v) ⊎ (v < i)) → (i < v → every (λ x. not (m x && eqb x v)) (up_to (i + 1) k) ≡ not (m v)) → (not (m i && eqb i v) && every (λ x. not (m x && eqb x v)) (up_to (i + 1) k)) ≡ not (m v)
     by (inl e) more =
-        ap₂ ◌&&◌ (ap (λ b. not (m i && b)) (eq-eqb i v e) ∙ ap not (and_true (m i)) ∙ ap (λ x. not (m x)) e) (past_only (i + 1) k v m (omega arith))
-        ∙ and_true (not (m v))
+        ap₂ ◌&&◌ (ap (λ b. not (m i && b)) (eq-eqb i v e) ∙ ap not (and-true (m i)) ∙ ap (λ x. not (m x)) e) (past_only (i + 1) k v m (omega arith))
+        ∙ and-true (not (m v))
     by (inr (inl g)) more =
-        ap₂ ◌&&◌ (ap (λ b. not (m i && b)) (ne_eqb i v (omega arith)) ∙ ap not (and_false (m i))) (more g)
+        ap₂ ◌&&◌ (ap (λ b. not (m i && b)) (ne_eqb i v (omega arith)) ∙ ap not (and-false (m i))) (more g)
     by (inr (inr g)) more = absurd (far g l)
 
 pub has_bit_is : (n v : ℕ) (m : Vars) → 1 ≤ v → v ≤ n → has_bit v (mask n m) ≡ m v
@@ -158,7 +147,7 @@ has_bit_is n v m l h =
     ap (λ x. not (eqb (bit_and (mask n m) x) 0)) (sym (packed_one 1 n v l (omega arith)))
     ∙ ap (λ x. not (eqb x 0)) (packed_and 1 n m (λ x. eqb x v))
     ∙ ap not (packed_none 1 n (λ x. m x && eqb x v) ∙ only 1 n v m l (omega arith))
-    ∙ not_not (m v)
+    ∙ not-not (m v)
 
 -- no two of several sets meet
 and_swap : (a b c d : Bool) → (a && ((b && c) && d)) ≡ ((a && b) && (c && d))
@@ -193,14 +182,6 @@ disjoint_or vs a b c =
 
 pub getD_mask : (n : ℕ) (ms : List Vars) (c : ℕ) → get_or (map (mask n) ms) c 0 ≡ mask n (get_or ms c none)
 getD_mask n ms c = ap (get_or (map (mask n) ms) c) (sym (mask_none n)) ∙ get_or-mapped (mask n) ms c none
-
-pub or_assoc : (a b c : Bool) → ((a || b) || c) ≡ (a || (b || c))
-or_assoc true b c = refl
-or_assoc false b c = refl
-
-pub or_none : (a : Bool) → (a || false) ≡ a
-or_none true = refl
-or_none false = refl
 
 every_true : {A : Type 0} (p : A → Bool) (xs : List A) → ((x : A) → p x ≡ true) → every p xs ≡ true
 every_true p [] h = refl

@@ -18,13 +18,13 @@ use Rattle.table.specs.Circuit.{Shape, bottom, Vars, every, mention, mentions}
 use Rattle.table.specs.Sound.{Roles, Verdict, sound, flawed, none, chances, flaw_first, flaw_at, verdict_from, verdict}
 use Rattle.table.specs.Nodes.{shape, shapes, roles_of}
 use Rattle.table.specs.Sets.{mask, masks, mentions_of}
-use Rattle.table.specs.Masks.{nothing, mentions_in, blank, chance_mask, flaw_by, steady, sets_by}
+use Rattle.table.specs.Masks.{nothing, mentions_in, blank, chance_mask, flaw_by, sets_by}
 use Rattle.table.specs.declared.known.NodeSets.{NodeSets}
 use Rattle.table.specs.Check.{counts_within, options_within, answer_by, check_says}
 use Rattle.table.proofs.Packs.{getD_mask}
-use Rattle.table.proofs.Chances.{total_is, roles_length, roles_few}
+use Rattle.table.proofs.Chances.{total_is, roles_length}
 use Rattle.table.proofs.Upward.{upward_length, upward_here}
-use Rattle.table.proofs.Agree.{sets_at, sets_with, Known, steady_when, flaw_same, sets_same}
+use Rattle.table.proofs.Agree.{sets_at, sets_with, Known, flaw_same, sets_same}
 
 -- the first i nodes are checked
 pub record Checked (rs : Roles) (ss : List Shape) (i : ℕ) (all : List NodeSets) : Type 0 where
@@ -92,10 +92,6 @@ module _ (vs : Variables) (cs : List ℕ) (ns : List Node) (i : ℕ) (known : Li
     goes : verdict_from rs ss (mentions ss) (i + 1) (drop (i + 1) ss) ≡ verdict rs ss
     unfolding after
     goes = ap after (fine ∙ flaw_here) ∙ sym step ∙ inv.rest
-
-    pub steady_here : steady 64 (length (take i known)) (shape cs (get_or ns i blank)) ≡ true
-    steady_here =
-        ap (steady 64 (length (take i known))) node_is ∙ steady_when (length rs) (chance_mask rs) (take i known) here (roles_few vs) flawless
 
     module _ (s : NodeSets) (s-by : s ≡ sets_by ns (take i known) (shape cs (get_or ns i blank))) where
       s_is : s ≡ sets_at rs ss i

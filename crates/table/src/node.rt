@@ -6,9 +6,7 @@ ghost use Rattle.table.specs.Masks.{and_flaw, fork_flaw, flaw_by, steady, sets_b
 
 use crate::fault::Flaw;
 use crate::known::NodeSets;
-use crate::sets::{
-    all_apart, all_below, bit_of, child, is_known, literal_sets, stretch_of, with_children,
-};
+use crate::sets::{all_apart, all_below, bit_of, child, is_known, stretch_of};
 use text::record::{Form, Node};
 
 /// The first flaw of a node, by what is known of the nodes before it, with the count of the
@@ -96,8 +94,8 @@ pub(crate) fn sets_of(node: Node, nodes: &[Node], children: &[u16], before: &[No
     ensures { result ≡ sets_by nodes.now before.now (shape children.now node) }
 {
     match node.form {
-        Form::Literal { variable, on } => literal_sets(variable, on),
-        Form::And => with_children(stretch_of(children, node.first, node.count), nodes, before),
+        Form::Literal { variable, on } => NodeSets::of_literal(variable, on),
+        Form::And => NodeSets::of_and(stretch_of(children, node.first, node.count), nodes, before),
         Form::Fork { variable: _ } => {
             let first = node.first as usize;
             let on = before[child(children, first)];

@@ -68,47 +68,49 @@ pub(crate) fn all_apart(children: &[u16], before: &[NodeSets]) -> bool
     true
 }
 
-/// What is known of a literal.
-pub(crate) fn literal_sets(variable: u16, on: bool) -> NodeSets
-    requires { (0 < variable) × (variable ≤ 64) }
-    ensures { result ≡ literal_sets variable on }
-{
-    let bit = bit_of(variable);
-    NodeSets {
-        mentions: bit,
-        on: if on { bit } else { 0 },
-        off: if on { 0 } else { bit },
+impl NodeSets {
+    /// What is known of a literal.
+    pub(crate) fn of_literal(variable: u16, on: bool) -> NodeSets
+        requires { (0 < variable) × (variable ≤ 64) }
+        ensures { result ≡ literal_sets variable on }
+    {
+        let bit = bit_of(variable);
+        NodeSets {
+            mentions: bit,
+            on: if on { bit } else { 0 },
+            off: if on { 0 } else { bit },
+        }
     }
-}
 
-/// What is known of an and.
-pub(crate) fn with_children(children: &[u16], nodes: &[Node], before: &[NodeSets]) -> NodeSets
-    requires below { every (under (length before.now)) children.now ≡ true }
-    requires within { length before.now ≤ length nodes.now }
-    ensures { result ≡ with_children nothing nodes.now before.now children.now }
-{
-    let mut seen = NodeSets::default();
-    for c in children {
-        let place = *c as usize;
-        seen = with_child(seen, nodes[place].form, before[place]);
+    /// What is known of an and.
+    pub(crate) fn of_and(children: &[u16], nodes: &[Node], before: &[NodeSets]) -> NodeSets
+        requires below { every (under (length before.now)) children.now ≡ true }
+        requires within { length before.now ≤ length nodes.now }
+        ensures { result ≡ with_children nothing nodes.now before.now children.now }
+    {
+        let mut sets = NodeSets::default();
+        for c in children {
+            let place = *c as usize;
+            sets = sets.with_child(nodes[place].form, before[place]);
+        }
+        sets
     }
-    seen
-}
 
-/// What is known of an and with one child more: all that the child mentions, and its literal if it
-/// is one.
-fn with_child(seen: NodeSets, form: Form, child: NodeSets) -> NodeSets
-    ensures { result ≡ with_child seen form child }
-{
-    let mentions = seen.mentions | child.mentions;
-    match form {
-        Form::Literal { variable: _, on: _ } => NodeSets {
-            mentions,
-            on: seen.on | child.on,
-            off: seen.off | child.off,
-        },
-        Form::And | Form::Fork { variable: _ } | Form::True | Form::False => {
-            NodeSets { mentions, ..seen }
+    /// What is known of an and with one child more: it mentions all that the child mentions, and
+    /// has its literal if it is one.
+    fn with_child(self, form: Form, child: NodeSets) -> NodeSets
+        ensures { result ≡ with_child self form child }
+    {
+        let mentions = self.mentions | child.mentions;
+        match form {
+            Form::Literal { variable: _, on: _ } => NodeSets {
+                mentions,
+                on: self.on | child.on,
+                off: self.off | child.off,
+            },
+            Form::And | Form::Fork { variable: _ } | Form::True | Form::False => {
+                NodeSets { mentions, ..self }
+            }
         }
     }
 }
