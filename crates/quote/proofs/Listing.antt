@@ -10,7 +10,8 @@ use Rattle.table.specs.Check.{check_says}
 use Rattle.table.specs.declared.mentions.Mentions.{Mentions}
 use Rattle.text.specs.declared.record.Contents.{Contents}
 use Rattle.std.proofs.lemmas.Result.{IfOk-weaker}
-use Rattle.text.specs.Shown.{Lines, text_of, PlainNames}
+use Rattle.text.specs.Printed.{Lines, text_of}
+use Rattle.text.specs.Shown.{PlainNames}
 use Rattle.text.proofs.Printed.{text_then}
 use Rattle.text.specs.declared.record.Variable.{Variable}
 use Rattle.text.specs.declared.record.Variables.{Variables}
@@ -23,7 +24,7 @@ use Rattle.text.specs.declared.record.Form.{Form}
 use Rattle.text.specs.declared.record.Form.TheVariants.{Literal, And, Fork, True, False}
 use Rattle.text.specs.declared.record.Node.{Node}
 use Rattle.quote.specs.declared.report.Forms.{Forms}
-use Rattle.quote.specs.Report.{with_form, total, no_forms, forms_on, forms_of, counted, counts_of, contents_of, table_of, checked, checked_by, read_by, reported, described, described_from, mentioned_from, root_set}
+use Rattle.quote.specs.Report.{with_form, total, no_forms, forms_on, forms_of, counted, counts_of, contents_of, table_of, accepted, checked, checked_by, read_by, reported, described, described_from, mentioned_from, root_set}
 
 -- not more options than variables
 
@@ -87,14 +88,20 @@ contents_parts c ns variables forms ev ef =
     ∙ ap (λ l. text_of (counts_of c) ++ l) (sym (text_then vs (f ++ w)))
     ∙ sym (text_then (counts_of c) (vs ++ (f ++ w)))
 
-module _ (c : Contents) (ns : List Node) (cs : List ℕ) (m : Mentions) (ok : check_says c.variables ns cs ≡ Ok m) (t : Table) (ev : t.variables ≡ c.variables) (en : t.nodes.now ≡ ns) (ec : t.children.now ≡ cs) where
-  pub accepted_parts : (said root : List ℕ) → said ≡ text_of (contents_of c ns) → (PlainNames (listed t.variables) → root ≡ mentioned_text (root_set (circuit t)) 1 (listed t.variables))
-      → PlainNames (listed c.variables) → said ++ (codes "table\tsound\n" ++ root) ≡ text_of (checked c ns cs)
-  accepted_parts said root es er plain =
-      let P : Variables → Type 0 = λ w. PlainNames (listed w) → root ≡ mentioned_text (root_set (circuit t)) 1 (listed w) in
-      ap₂ (λ l r. l ++ (codes "table\tsound\n" ++ r)) es (subst P ev er plain ∙ ap (λ ss. mentioned_text (root_set ss) 1 (listed c.variables)) (ap₂ shapes ec en))
-      ∙ sym (text_then (contents_of c ns) (table_of c.variables ns cs))
-      ∙ ap (λ a. text_of (checked_by c ns cs a)) (sym ok)
+pub accepted_parts : (c : Contents) (t : Table) (said root : List ℕ) → t.variables ≡ c.variables → said ≡ text_of (contents_of c t.nodes.now)
+    → (PlainNames (listed t.variables) → root ≡ mentioned_text (root_set (circuit t)) 1 (listed t.variables))
+    → PlainNames (listed c.variables) → said ++ (codes "table\tsound\n" ++ root) ≡ text_of (accepted c t.nodes.now t.children.now)
+accepted_parts c t said root ev es er plain =
+    let P : Variables → Type 0 = λ w. PlainNames (listed w) → root ≡ mentioned_text (root_set (circuit t)) 1 (listed w) in
+    ap₂ (λ l r. l ++ (codes "table\tsound\n" ++ r)) es (subst P ev er plain)
+    ∙ sym (text_then (contents_of c t.nodes.now) (table_of c.variables t.nodes.now t.children.now))
+
+pub checked_parts : {X Y : Type 0} (bytes : X → List ℕ) (r : Result X Y) (c : Contents) (ns ns' : List Node) (cs cs' : List ℕ) (m : Mentions) → ns ≡ ns' → cs ≡ cs'
+    → check_says c.variables ns' cs' ≡ Ok m → IfOk r (λ s. PlainNames (listed c.variables) → bytes s ≡ text_of (accepted c ns cs))
+    → IfOk r (λ s. PlainNames (listed c.variables) → bytes s ≡ text_of (checked c ns' cs'))
+checked_parts bytes r c ns ns' cs cs' m en ec ok printed =
+    IfOk-weaker r _ _ (λ s h plain.
+    h plain ∙ ap₂ (λ n k. text_of (accepted c n k)) en ec ∙ ap (λ a. text_of (checked_by c ns' cs' a)) (sym ok)) printed
 
 -- what is printed for a file that was read
 pub read_parts : {X Y : Type 0} (bytes : X → List ℕ) (r : Result X Y) (p : Parts) (file : List ℕ) → ArePartsOf largest file p

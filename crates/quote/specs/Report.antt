@@ -1,7 +1,8 @@
 -- The text that the program prints, as bytes. Assumes nothing.
 use Rattle.std.specs.Prelude.{ℕ, ◌+◌, ◌-◌, cond, List, [], ◌∷◌, ◌++◌, length, Ok, Err, codes, decimal, Result}
 use Rattle.text.specs.Format.{spelled, listed, options}
-use Rattle.text.specs.Shown.{Lines, role_word}
+use Rattle.text.specs.Printed.{Lines, refusal_fields}
+use Rattle.text.specs.Shown.{role_word}
 use Rattle.text.specs.declared.fault.Fault as text
 use Rattle.text.specs.declared.record.Variable.{Variable}
 use Rattle.text.specs.declared.record.Variables.{Variables}
@@ -22,7 +23,7 @@ use Rattle.quote.specs.declared.report.Forms.{Forms}
 
 -- for a refused file or table: X, the refusal's number and its place
 abbrev pub refusal : Fault → List (List ℕ)
-refusal f = codes "X" ∷ decimal (fault_number f) ∷ decimal (fault_place f) ∷ []
+refusal f = refusal_fields (fault_number f) (fault_place f)
 
 -- words, and a count behind them
 abbrev pub counted : List ℕ → ℕ → List (List ℕ)
@@ -99,9 +100,13 @@ mentioned_from set number (v ∷ vs) =
 abbrev pub table_of : Variables → List Node → List ℕ → Lines
 table_of vs ns cs = (codes "table" ∷ codes "sound" ∷ []) ∷ mentioned_from (root_set (shapes cs ns)) 1 (listed vs)
 
+-- what is printed for a table that the check accepts
+abbrev pub accepted : Contents → List Node → List ℕ → Lines
+accepted c ns cs = contents_of c ns ++ table_of c.variables ns cs
+
 -- what is printed for an answer of the check
 abbrev pub checked_by : Contents → List Node → List ℕ → Result Mentions Fault → Lines
-checked_by c ns cs (Ok m) = contents_of c ns ++ table_of c.variables ns cs
+checked_by c ns cs (Ok m) = accepted c ns cs
 checked_by c ns cs (Err f) = refusal f ∷ []
 
 -- what is printed for a file that was read, with the nodes and the child numbers that it gave

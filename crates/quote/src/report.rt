@@ -1,19 +1,17 @@
 //! What the program prints: for an accepted file what it says, for a refused one the refusal.
 ghost use Rattle.std.specs.Prelude.{◌≡◌, ◌<◌, [], ◌∷◌, ◌++◌, Some, IfOk, Ok, string_bytes, IsAscii};
 ghost use Rattle.text.specs.Format.{listed, spelled};
-ghost use Rattle.text.specs.Shown.{PlainNames, text_of};
-ghost use Rattle.table.specs.Check.{check_says};
+ghost use Rattle.text.specs.Printed.{text_of};
+ghost use Rattle.text.specs.Shown.{PlainNames};
 ghost use Rattle.table.specs.Whole.{circuit};
-ghost use Rattle.quote.specs.Report.{refusal, counts_of, described, described_from, no_forms, with_form, total, forms_on, forms_of, contents_of, root_set, mentioned_from, checked, reported};
+ghost use Rattle.quote.specs.Report.{counts_of, described, described_from, no_forms, with_form, total, forms_on, forms_of, contents_of, root_set, mentioned_from, accepted, checked, reported};
 
 use parts::stores::{Parts, Room};
 use std::alloc::{AllocError, Global};
 use std::fmt;
-use table::check::check;
-use table::fault::Fault;
-use table::mentions::Mentions;
 use table::table::Table;
 use text::record::{Contents, Form, Node, Variable, Variables};
+use text::refusal::RefusalLine;
 
 /// How many nodes there are of each form.
 #[derive(Clone, Copy, Default)]
@@ -101,38 +99,27 @@ pub fn report(heap: Global, file: &[u8]) -> Result<String, AllocError>
     let room = Room::largest();
     match Parts::read(heap, &room, file)? {
         Ok(parts) => checked_text(heap, &parts),
-        Err(fault) => refusal_line(heap, Fault::Text(fault)),
+        Err(fault) => RefusalLine(fault).to_string(heap),
     }
-}
-
-/// The line for a refused file or table: the refusal's number and its place.
-pub fn refusal_line(heap: Global, fault: Fault) -> Result<String, AllocError>
-    ensures { IfOk result (λ s. string_bytes s ≡ text_of (refusal fault ∷ [])) }
-{
-    let number = fault.number();
-    let place = fault.place();
-    format!(in heap; "X\t{number}\t{place}\n")
 }
 
 /// What is printed for a file that was read: what it says if the check accepts it, else the refusal.
 fn checked_text(heap: Global, parts: &Parts) -> Result<String, AllocError>
     ensures { IfOk result (λ s. PlainNames (listed parts.now.contents.variables) → string_bytes s ≡ text_of (checked parts.now.contents parts.now.nodes.items parts.now.children.items)) }
 {
-    match check(&parts.nodes, &parts.children, &parts.contents.variables) {
-        Ok(mentions) => accepted_text(heap, parts, mentions),
-        Err(fault) => refusal_line(heap, fault),
+    match Table::check(&parts.nodes, &parts.children, parts.contents.variables) {
+        Ok(table) => accepted_text(heap, &parts.contents, &table),
+        Err(fault) => RefusalLine(fault).to_string(heap),
     }
 }
 
 /// What an accepted file says, and what its table is: sound, with the variables that its root mentions.
-fn accepted_text(heap: Global, parts: &Parts, mentions: Mentions) -> Result<String, AllocError>
-    requires { check_says parts.now.contents.variables parts.now.nodes.items parts.now.children.items ≡ Ok mentions }
-    ensures { IfOk result (λ s. PlainNames (listed parts.now.contents.variables) → string_bytes s ≡ text_of (checked parts.now.contents parts.now.nodes.items parts.now.children.items)) }
+fn accepted_text(heap: Global, contents: &Contents, table: &Table) -> Result<String, AllocError>
+    requires { table.now.variables ≡ contents.now.variables }
+    ensures { IfOk result (λ s. PlainNames (listed contents.now.variables) → string_bytes s ≡ text_of (accepted contents.now table.now.nodes.now table.now.children.now)) }
 {
-    let said = contents_text(heap, &parts.contents, &parts.nodes)?;
-    let variables = parts.contents.variables;
-    let table = Table::new(&parts.nodes, &parts.children, variables, mentions);
-    let root = root_text(heap, &table)?;
+    let said = contents_text(heap, contents, table.nodes)?;
+    let root = root_text(heap, table)?;
     format!(in heap; "{said}table\tsound\n{root}")
 }
 
