@@ -1,5 +1,5 @@
 -- Texts made of lines, and the text of a name. Assumes nothing.
-use Rattle.std.proofs.Common.{◌≡◌, ℕ, suc, ◌+◌, ◌-◌, ◌≤◌, List, [], ◌∷◌, ◌++◌, length, IsAscii, Ok, Err, Result, sym, refl, ap, ◌∙◌, ap₂, subst, ◌⊎◌, ⊎_elim, arith, append_assoc}
+use Rattle.std.proofs.Common.{◌≡◌, ℕ, suc, ◌+◌, ◌-◌, ◌<◌, ◌≤◌, List, [], ◌∷◌, ◌++◌, length, IsAscii, Ok, Err, Result, sym, refl, ap, ◌∙◌, ap₂, subst, ◌⊎◌, ⊎_elim, arith, append_assoc}
 use Rattle.std.proofs.lemmas.List.{append-nil, nil_from_length}
 use Rattle.std.proofs.lemmas.Str.{IsUtf8-from_ascii}
 use Rattle.std.specs.Str.{IsUtf8}
@@ -37,6 +37,7 @@ plain_parts v vs plain = (plain 0 v (omega arith), λ k d lt. plain (suc k) d (o
 -- what is printed of all variables is what is printed so far and what is left to print, of those from this number on
 pub record Printing (text : ℕ → List Variable → List ℕ) (vs : List Variable) (printed : List ℕ) (number : ℕ) (left : List Variable) : Type 0 where
   pub count : number + length left ≡ length vs + 1
+  pub counted : 0 < number
   pub plain : PlainNames vs → PlainNames left
   pub whole : PlainNames vs → printed ++ text number left ≡ text 1 vs
 
@@ -44,6 +45,7 @@ module _ (text : ℕ → List Variable → List ℕ) (vs : List Variable) where
   pub begun : (printed : List ℕ) (number : ℕ) (left : List Variable) → printed ≡ [] → number ≡ 1 → left ≡ vs → Printing text vs printed number left
   begun printed number left none first all = record {
     count = omega (arith, ap length all, first);
+    counted = omega (arith, first);
     plain = λ plain. let P : List Variable → Type 0 = λ xs. PlainNames xs in subst P (sym all) plain;
     whole = λ plain. ap₂ (λ p t. p ++ t) none (ap₂ text first all);
   }
@@ -55,6 +57,7 @@ module _ (text : ℕ → List Variable → List ℕ) (vs : List Variable) where
         let parts : PlainNames vs → IsAscii (spelled v.name) × PlainNames left' = λ plain. plain_parts v left' (subst Q is (p.plain plain)) in
         record {
           count = omega (arith, p.count, ap length is, up.0, up.1);
+          counted = omega (arith, up.1);
           plain = λ plain. (parts plain).1;
           whole = λ plain. ap (λ n. printed' ++ text n left') up.1 ∙ more (parts plain).0 ∙ ap (λ t. printed ++ t) (ap₂ text up.0 (sym is)) ∙ p.whole plain;
         }
