@@ -6,7 +6,7 @@ ghost use Rattle.text.specs.Format.{by_letter, kind_of};
 use crate::fields::first_field;
 
 /// What a line is by its first field.
-#[derive(Clone, Copy)]
+#[derive(Clone, Copy, Debug, PartialEq, Eq)]
 pub enum Kind {
     Header,
     Variable,
@@ -19,7 +19,7 @@ pub enum Kind {
 }
 
 /// The part of the file that the next line belongs to.
-#[derive(Clone, Copy)]
+#[derive(Clone, Copy, Debug, PartialEq, Eq)]
 pub enum Section {
     Header,
     Variables,

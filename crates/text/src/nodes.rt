@@ -13,7 +13,7 @@ use crate::numeral::read_number;
 use crate::record::Form;
 
 /// A node line: what the node is, and from which field on the line names its children.
-#[derive(Clone, Copy)]
+#[derive(Clone, Copy, Debug, PartialEq, Eq)]
 pub struct NodeLine {
     pub form: Form,
     pub from: usize,

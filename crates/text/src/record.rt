@@ -2,7 +2,7 @@
 ghost use Rattle.std.specs.Prelude.{◌≤◌};
 
 /// What a node of the circuit is.
-#[derive(Clone, Copy)]
+#[derive(Clone, Copy, Debug, PartialEq, Eq)]
 pub enum Form {
     Literal { variable: u16, on: bool },
     And,
@@ -13,7 +13,7 @@ pub enum Form {
 
 /// A node of the circuit. Its children are the `count` numbers of the child store from place
 /// `first` on; of a fork the on branch comes first.
-#[derive(Clone, Copy)]
+#[derive(Clone, Copy, Debug, PartialEq, Eq)]
 pub struct Node {
     pub form: Form,
     pub first: u16,
@@ -21,7 +21,7 @@ pub struct Node {
 }
 
 /// Who sets a variable: the estimator sets an option, the site sets a chance.
-#[derive(Clone, Copy)]
+#[derive(Clone, Copy, Debug, PartialEq, Eq)]
 pub enum Role {
     Option,
     Chance,
@@ -50,7 +50,7 @@ pub struct Variables {
 }
 
 /// The counts that the first line gives.
-#[derive(Clone, Copy)]
+#[derive(Clone, Copy, Debug, PartialEq, Eq)]
 pub struct Header {
     pub variables: u16,
     pub nodes: u16,
