@@ -28,21 +28,21 @@ pub enum Role {
 }
 
 /// A variable's name: the first `length` bytes, with zeros behind them.
-#[derive(Clone, Copy)]
+#[derive(Clone, Copy, Debug, PartialEq, Eq)]
 pub struct Name {
     pub bytes: [u8; 24],
     pub length: u8,
     ghost fits: { length ≤ 24 },
 }
 
-#[derive(Clone, Copy)]
+#[derive(Clone, Copy, Debug, PartialEq, Eq)]
 pub struct Variable {
     pub role: Role,
     pub name: Name,
 }
 
 /// The variables 1 to `count`; variable i stands at place i - 1.
-#[derive(Clone, Copy)]
+#[derive(Clone, Copy, Debug, PartialEq, Eq)]
 pub struct Variables {
     pub all: [Variable; 64],
     pub count: u8,
@@ -59,7 +59,7 @@ pub struct Header {
 
 /// What the reader answers beside what it wrote into the stores. `weights` is the place behind
 /// the last node line, where the weight text begins.
-#[derive(Clone, Copy)]
+#[derive(Clone, Copy, Debug, PartialEq, Eq)]
 pub struct Contents {
     pub variables: Variables,
     pub nodes: u16,
