@@ -7,23 +7,12 @@ ghost use Rattle.text.specs.declared.kind.Kind.TheVariants as kind;
 ghost use Rattle.text.specs.declared.kind.Section.TheVariants as section;
 
 use crate::fault::{Fault, Reason};
-use crate::fields::{NEWLINE, all_printable, field_count, find, from_field};
+use crate::fields::{NEWLINE, all_printable, field_count, find};
 use crate::kind::{Kind, Section, line_kind};
 use crate::lines::{header_line, variable_line};
 use crate::nodes::{node_line, write_numbers};
 use crate::progress::Progress;
 use crate::record::{Contents, Header, Node, Variables};
-
-/// Writes the numbers in the fields of a line from the field `from` on.
-fn write_children(line: &[u8], from: usize, children: &mut [u16], place: usize)
-    requires within { from ≤ length (fields line.now) }
-    requires room { place + length (drop from (fields line.now)) ≤ length children.old }
-    ensures { children.new ≡ written_at place (map number_or_zero (drop from (fields line.now))) children.old }
-{
-    if from < field_count(line) {
-        write_numbers(from_field(line, from), children, place);
-    }
-}
 
 impl Progress {
     fn new() -> Progress
@@ -122,7 +111,7 @@ impl Progress {
         if !self.children_fit(count) {
             return Err(Reason::Children);
         }
-        write_children(line, said.from, children, self.children);
+        write_numbers(line, said.from, children, self.children);
         nodes[self.nodes] = Node {
             form: said.form,
             first: self.children as u16,
