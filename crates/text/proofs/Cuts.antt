@@ -1,10 +1,11 @@
 -- Lines by the place of the next byte 10. Assumes nothing.
-use Rattle.std.proofs.Common.{◌≡◌, ℕ, suc, ◌+◌, ◌-◌, ◌<◌, ◌≤◌, true, false, cond, eqb, List, [], ◌∷◌, length, take, drop, sym, refl, ap, ◌∙◌, ap₂, arith}
-use Rattle.std.specs.List.{position_or_len}
+use Rattle.std.proofs.Common.{◌≡◌, ℕ, suc, ◌+◌, ◌-◌, ◌<◌, ◌≤◌, true, false, cond, eqb, ◌⊎◌, inl, inr, List, [], ◌∷◌, length, take, drop, Some, None, Option, unwrap_or, sym, refl, ap, ◌∙◌, ap₂, add-one, arith}
+use Rattle.std.specs.List.{AllWithin, HoldsAt}
+use Rattle.std.specs.Option.{MatchOption}
+use Rattle.std.proofs.lemmas.Iterator.{index_from_first}
 use Rattle.std.proofs.lemmas.List.{take_rest, drop-drop, length-drop, length-take-le}
-use Rattle.std.proofs.lemmas.List.Recursion.{is_position_or_len}
-use Rattle.std.proofs.lemmas.Bool.{cond_both}
-use Rattle.text.specs.Lines.{onto, index_of, lines}
+use Rattle.std.proofs.lemmas.Bool.{cases_lt, cond_both, cond-true, cond-false, eq-eqb, ne_eqb}
+use Rattle.text.specs.Lines.{onto, index_of, lines, BeginsWithLine}
 
 -- the place is within the text
 pub index_le : (b : ℕ) (xs : List ℕ) → index_of b xs ≤ length xs
@@ -28,9 +29,42 @@ no_line (x ∷ xs) h =
       | false ↦ λ k. ap (onto x) (no_line xs (omega arith))
     ] h
 
--- the place, in the words of `position`
-pub index_is : (b : ℕ) (xs : List ℕ) → index_of b xs ≡ position_or_len (λ x. eqb x b) xs
-index_is b xs = is_position_or_len (index_of b) (λ x. eqb x b) refl (λ x ys. ap (cond (eqb x b) 0) (omega arith)) xs
+-- r is the place of the first byte b, as `position` gives it
+abbrev pub IsFirst : ℕ → List ℕ → Option ℕ → Type 0
+IsFirst b xs r = MatchOption r (AllWithin (λ x. x ≡ b → ⊥) xs 0 (length xs)) (λ i. (i < length xs) × HoldsAt (λ x. x ≡ b) xs i × AllWithin (λ x. x ≡ b → ⊥) xs 0 i)
+
+pub index_at : (b : ℕ) (xs : List ℕ) (r : Option ℕ) → IsFirst b xs r → index_of b xs ≡ unwrap_or r (length xs)
+index_at b xs r h =
+    index_from_first (index_of b) (λ x. x ≡ b) (λ x. x ≡ b → ⊥) refl (λ x ys e. cond-true (eqb x b) 0 _ (eq-eqb x b e))
+    (λ x ys n. cond-false (eqb x b) 0 _ (ne_eqb x b n) ∙ sym (add-one (index_of b ys))) xs r h
+
+-- a text is cut at its first byte 10, if it has one
+pub begins : (xs : List ℕ) (r : Option ℕ) (i : ℕ) → IsFirst 10 xs r → r ≡ Some i → BeginsWithLine xs (take i xs)
+begins xs r i h e =
+    let first : IsFirst 10 xs (Some i) = rw e at h in
+    let is = index_at 10 xs (Some i) first in
+    let fits : i ≤ length xs = omega (arith, first.0) in
+    let long = length-take-le i xs fits in
+    let behind : suc (index_of 10 xs) ≡ length (take i xs) + 1 = omega (arith, is, long) in
+    record {
+      within = omega (arith, first.0, long);
+      lines_are = first_line xs (omega (arith, is, first.0)) ∙ ap₂ (λ n k. take n xs ∷ lines (drop k xs)) is behind;
+    }
+
+-- each text begins with a line or has none
+pub cut : (xs : List ℕ) → BeginsWithLine xs (take (index_of 10 xs) xs) ⊎ (lines xs ≡ [])
+cut xs = elim (cases_lt (index_of 10 xs) (length xs)) [
+  | inl h ↦ (
+      let low : index_of 10 xs ≤ length xs = omega arith in
+      let long = length-take-le (index_of 10 xs) xs low in
+      let behind : suc (index_of 10 xs) ≡ length (take (index_of 10 xs) xs) + 1 = omega (arith, long) in
+      inl (record { within = omega (arith, h, long); lines_are = first_line xs h ∙ ap (λ k. take (index_of 10 xs) xs ∷ lines (drop k xs)) behind })
+      )
+  | inr h ↦ inr (no_line xs h)
+]
+
+pub no_lines : (xs : List ℕ) (r : Option ℕ) → IsFirst 10 xs r → r ≡ None → lines xs ≡ []
+no_lines xs r h e = no_line xs (omega (arith, index_at 10 xs r h ∙ ap (λ o. unwrap_or o (length xs)) e))
 
 -- the lines of what is left of a text, by the end of the first of them
 module _ (xs : List ℕ) (at r : ℕ) (inside : at ≤ length xs) (is : r ≡ index_of 10 (take (length xs - at) (drop at xs))) where

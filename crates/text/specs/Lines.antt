@@ -1,5 +1,5 @@
 -- A text as lines, and a line as fields. Assumes nothing.
-use Rattle.std.specs.Prelude.{ℕ, suc, Bool, cond, ◌&&◌, ◌||◌, List, [], ◌∷◌, ◌==◌, nat_le}
+use Rattle.std.specs.Prelude.{◌≡◌, ℕ, suc, ◌+◌, ◌<◌, length, drop, Bool, cond, ◌&&◌, ◌||◌, List, [], ◌∷◌, ◌==◌, nat_le}
 use Rattle.std.specs.List.{list_all, slice_split}
 
 -- whether a test holds of every element
@@ -24,6 +24,11 @@ onto b (p ∷ ps) = (b ∷ p) ∷ ps
 abbrev pub lines : List ℕ → List (List ℕ)
 lines [] = []
 lines (b ∷ bs) = cond (b == 10) ([] ∷ lines bs) (onto b (lines bs))
+
+-- a text begins with a line, which a byte 10 ends
+pub record BeginsWithLine (text line : List ℕ) : Type 0 where
+  pub within : length line < length text
+  pub lines_are : lines text ≡ line ∷ lines (drop (length line + 1) text)
 
 -- the fields of a line, parted by tabs; there is always at least one
 abbrev pub fields : List ℕ → List (List ℕ)

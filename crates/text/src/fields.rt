@@ -1,6 +1,6 @@
 //! The bytes and the fields of a line.
-ghost use Rattle.std.specs.Prelude.{◌≡◌, ◌≤◌, [], length, slice_index_or};
-ghost use Rattle.text.specs.Lines.{every, printable, index_of, fields};
+ghost use Rattle.std.specs.Prelude.{◌≡◌, ◌≤◌, [], length, slice_index_or, MatchOption};
+ghost use Rattle.text.specs.Lines.{every, printable, index_of, lines, fields, BeginsWithLine};
 
 /// The byte between two fields.
 pub const TAB: u8 = 9;
@@ -14,6 +14,14 @@ pub fn find(text: &[u8], byte: u8) -> usize
     ensures within { result ≤ length text.now }
 {
     text.iter().position(|b| *b == byte).unwrap_or(text.len())
+}
+
+/// The first line of a text, without the byte that ends it, if the text has one.
+pub fn first_line(text: &[u8]) -> Option<&[u8]>
+    ensures { MatchOption result (lines text.now ≡ []) (λ l. BeginsWithLine text.now l.now) }
+{
+    let end = text.iter().position(|b| *b == NEWLINE)?;
+    Some(&text[..end])
 }
 
 /// Whether a byte may stand in a line: a tab, or 32 to 126.
