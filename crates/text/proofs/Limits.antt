@@ -1,5 +1,5 @@
 -- What an accepted header line says of its counts. Assumes nothing.
-use Rattle.std.proofs.Common.{◌≡◌, ℕ, ◌≤◌, Bool, true, false, ◌&&◌, leb, List, [], ◌∷◌, Ok, Err, Result, refl, subst, arith}
+use Rattle.std.proofs.Common.{◌≡◌, ℕ, ◌≤◌, Bool, true, false, ◌&&◌, leb, List, [], ◌∷◌, Ok, Err, Result, sym, refl, ap, subst, arith}
 use Rattle.std.specs.Result.{MatchResult, IsErrAnd}
 use Rattle.std.proofs.lemmas.Bool.{and_parts, leb-true}
 use Rattle.text.specs.declared.fault.Reason.{Reason}
@@ -54,11 +54,11 @@ header_limits rooms (a ∷ b ∷ c ∷ d ∷ fs) h e = never reason.Line h e
 
 -- what `map_err` was given, by what it gave
 module _ {T E F : Type 0} (r : Result T E) (q : Result T F) (P : E → F → Type 0) (by : MatchResult r (λ x. q ≡ Ok x) (λ e. IsErrAnd q (P e))) where
-  pub before_ok : (u : T) → q ≡ Ok u → (v : T) × (r ≡ Ok v)
+  pub before_ok : (u : T) → q ≡ Ok u → r ≡ Ok u
   before_ok u is = go r (rw is at by)
     where
-      go : (r : Result T E) → MatchResult r (λ x. ◌≡◌ {A = Result T F} (Ok u) (Ok x)) (λ e. IsErrAnd (Ok u) (P e)) → (v : T) × (r ≡ Ok v)
-      go (Ok x) h = (x, refl)
+      go : (r : Result T E) → MatchResult r (λ x. ◌≡◌ {A = Result T F} (Ok u) (Ok x)) (λ e. IsErrAnd (Ok u) (P e)) → r ≡ Ok u
+      go (Ok x) h = let same : u ≡ x = cc in ap Ok (sym same)
       go (Err e) h = absurd h
 
   pub before_err : (f : F) → q ≡ Err f → (e : E) × (r ≡ Err e) × P e f

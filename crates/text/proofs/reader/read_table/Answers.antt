@@ -30,7 +30,7 @@ next c =
     let g = c.loop-line.invariant in
     let due = completeness file ns cs s g ∙ sym c.loop-line-test.ensures in
     let ok = before_ok c.take_next.result c.map_err.result _ c.map_err.ensures.cases _ c.in_ok-map_err.was in
-    let step = rw ok.1 at c.take_next.ensures in
+    let step = rw ok at c.take_next.ensures in
     let taken = subst (λ rooms. Taken s t (first_says rooms (sofar s) (lines (drop s.at.place file)))) (rooms_same file ns cs s g) step in
     (goes_on file ns cs s g due t c.take_next.auto.nodes c.take_next.auto.children taken, (next_place (rooms_for ns cs) (sofar s) (sofar t) file g.within taken.says).0)
 
