@@ -88,10 +88,10 @@ pub(crate) fn spoiled(
     heap: Global,
 ) -> Result<String, AllocError> {
     let mut file = String::new(heap);
-    for (number, old) in (1usize..).zip(LINES) {
-        let new = match number {
-            n if n == line => text,
-            1 => header,
+    for (i, old) in LINES.iter().enumerate() {
+        let new = match i {
+            _ if i.saturating_add(1) == line => text,
+            0 => header,
             _ => *old,
         };
         file.push_str(new)?;
