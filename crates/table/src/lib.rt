@@ -4,6 +4,7 @@
 pub mod build;
 pub mod check;
 pub mod fault;
+mod known;
 pub mod mentions;
 mod node;
 pub mod questions;
