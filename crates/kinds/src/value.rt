@@ -16,6 +16,7 @@ pub struct Load {
 }
 
 /// The highest load of any way, or that there is no way: no way ranks below any load.
+// Not an Option<Load>: the kind has a text form of its own, and no `Display` can be given to Option.
 #[derive(Clone, Copy, PartialEq, Eq, PartialOrd, Ord, Debug)]
 pub enum Peak {
     Impossible,

@@ -16,13 +16,12 @@ use table::table::Table;
 use text::fault::{Fault as TextFault, Reason};
 use text::fields::{NEWLINE, all_printable, field, field_count, find};
 use text::lines::number_field;
-use text::variables::same_bytes;
 
 /// Whether a line has its bytes, its fields and its letter.
 fn is_weight_line(text: &[u8]) -> bool
     ensures { result ≡ is_weight_line text.now }
 {
-    all_printable(text) && field_count(text) == 4 && same_bytes(field(text, 0), b"W")
+    all_printable(text) && field_count(text) == 4 && field(text, 0) == b"W".as_slice()
 }
 
 /// The weight in the field `k` of a line.
