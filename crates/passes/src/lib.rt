@@ -8,5 +8,6 @@ pub mod holding;
 pub mod holds;
 pub mod pair;
 pub mod plain;
+pub mod query;
 pub mod sheet;
 mod values;

@@ -12,6 +12,7 @@ ghost use Rattle.passes.specs.Rows.{under_in, product_under, side_in, open_at, s
 
 use crate::holds::Holds;
 use crate::plain::{fork_value, node_plain};
+use crate::query::Query;
 use crate::values::value_of;
 use kinds::figure::Figure;
 use kinds::order::{greater, lesser};
@@ -311,15 +312,16 @@ fn write_parts<K: Figure>(
     }
 }
 
-/// Writes the parts of the nodes, in order, into the first places of `work`. With k options a part
-/// has 2k + 1 places: the node's value, then each option's on and off value by rising number, zero
-/// where there is none.
-pub fn pair_pass<K: Figure>(table: &Table, sheet: &[K], holds: &Holds, work: &mut [K])
-    requires room { length (circuit table.now) * (2 * length (options_of (roles table.now)) + 1) ≤ length work.old }
-    requires sheet { 2 * length (roles table.now) ≤ length sheet.now }
-    ensures { work.new ≡ laid_out K.ring (roles table.now) sheet.now (pairs K.ring (roles table.now) sheet.now (circuit table.now) holds.now.entries) ++ drop (length (circuit table.now) * (2 * length (options_of (roles table.now)) + 1)) work.old }
-{
-    let mut numbers = [0; 64];
-    let count = list_options(table, &mut numbers);
-    write_parts(table, sheet, holds, &numbers[0..count], work);
+impl<K: Figure> Query<'_, K> {
+    /// Writes the parts of the nodes, in order, into the first places of `work`. With k options a
+    /// part has 2k + 1 places: the node's value, then each option's on and off value by rising
+    /// number, zero where there is none.
+    pub fn pair_pass(&self, work: &mut [K])
+        requires room { length (circuit self.now.table.now) * (2 * length (options_of (roles self.now.table.now)) + 1) ≤ length work.old }
+        ensures { work.new ≡ laid_out K.ring (roles self.now.table.now) self.now.sheet.now (pairs K.ring (roles self.now.table.now) self.now.sheet.now (circuit self.now.table.now) self.now.holds.now.entries) ++ drop (length (circuit self.now.table.now) * (2 * length (options_of (roles self.now.table.now)) + 1)) work.old }
+    {
+        let mut numbers = [0; 64];
+        let count = list_options(self.table, &mut numbers);
+        write_parts(self.table, self.sheet, self.holds, &numbers[0..count], work);
+    }
 }

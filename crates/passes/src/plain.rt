@@ -8,6 +8,7 @@ ghost use Rattle.passes.specs.Passes.{plain, plains};
 ghost use Rattle.passes.specs.Steps.{ranged, readable, fork_of, plain_in};
 
 use crate::holds::Holds;
+use crate::query::Query;
 use crate::sheet::look_up;
 use crate::values::{product_of, value_of};
 use kinds::figure::Figure;
@@ -76,14 +77,15 @@ pub(crate) fn node_plain<K: Figure>(
     }
 }
 
-/// Writes the values of the nodes, in order, into the first places of `work`.
-pub fn plain_pass<K: Figure>(table: &Table, sheet: &[K], holds: &Holds, work: &mut [K])
-    requires room { length (circuit table.now) ≤ length work.old }
-    requires sheet { 2 * length (roles table.now) ≤ length sheet.now }
-    ensures { work.new ≡ plains K.ring (roles table.now) sheet.now (circuit table.now) holds.now.entries ++ drop (length (circuit table.now)) work.old }
-{
-    for i in 0..table.nodes.len() {
-        let value = node_plain(table, sheet, holds, &work[0..i], 1, table.nodes[i]);
-        work[i] = value;
+impl<K: Figure> Query<'_, K> {
+    /// Writes the values of the nodes, in order, into the first places of `work`.
+    pub fn plain_pass(&self, work: &mut [K])
+        requires room { length (circuit self.now.table.now) ≤ length work.old }
+        ensures { work.new ≡ plains K.ring (roles self.now.table.now) self.now.sheet.now (circuit self.now.table.now) self.now.holds.now.entries ++ drop (length (circuit self.now.table.now)) work.old }
+    {
+        for (i, node) in self.table.nodes.iter().enumerate() {
+            let value = node_plain(self.table, self.sheet, self.holds, &work[0..i], 1, *node);
+            work[i] = value;
+        }
     }
 }

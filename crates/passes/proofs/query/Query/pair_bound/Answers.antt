@@ -11,17 +11,17 @@ use Rattle.passes.specs.Passes.{pair, plain_bound}
 use Rattle.passes.proofs.Above.{covers}
 use Rattle.passes.proofs.Below.{tightens, meets, plain_where_held}
 use Rattle.passes.proofs.Roots.{some_node, node_count, options_many, last_part, root_part_in}
-use Rattle.passes.proofs.bounds.pair_bound.Given as given
-use Rattle.passes.proofs.bounds.pair_bound.Goals as goal
-use Rattle.passes.proofs.bounds.pair_bound.Goals.{After-options}
+use Rattle.passes.proofs.query.Query.pair_bound.Given as given
+use Rattle.passes.proofs.query.Query.pair_bound.Goals as goal
+use Rattle.passes.proofs.query.Query.pair_bound.Goals.{After-options}
 
 -- the places of a part
-wide : (g : given.Over) (c : After-options g) → 2 * c.options.result + 1 ≡ 2 * length (options (roles c.args.table.now)) + 1
-wide g c = ap (λ n. 2 * n + 1) (c.options.ensures ∙ sym (options_many c.args.table.now))
+wide : (g : given.Over) (c : After-options g) → 2 * c.options.result + 1 ≡ 2 * length (options (roles c.args.self.now.table.now)) + 1
+wide g c = ap (λ n. 2 * n + 1) (c.options.ensures ∙ sym (options_many c.args.self.now.table.now))
 
 pub value_of-requires : goal.value_of-requires
 value_of-requires g c =
-    let t = c.args.table.now in
+    let t = c.args.self.now.table.now in
     let stride = 2 * c.options.result + 1 in
     let n = length t.nodes.now in
     let same : n * stride ≡ length (circuit t) * (2 * length (options (roles t)) + 1) =
@@ -33,13 +33,13 @@ value_of-requires g c =
 
 pub returns : goal.returns
 returns g c =
-    let t = c.args.table.now in
+    let t = c.args.self.now.table.now in
     let R = g.K.Figure.ring in
     let laws = g.K.Figure.laws in
     let rs = roles t in
     let ss = circuit t in
-    let sheet = c.args.sheet.now in
-    let h = c.args.holds.now.entries in
+    let sheet = c.args.self.now.sheet.now in
+    let h = c.args.self.now.holds.now.entries in
     let good = proved_sound t in
     let answer = c.value_of.ensures
     ∙ root_part_in R rs sheet (2 * c.options.result + 1) (wide g (goal.at.returns g c).After-options) _ _ _ _ c.pair_pass.ensures
