@@ -1,7 +1,7 @@
 //! Which options are held, and how.
 
 /// A variable's entry among the holds.
-#[derive(Clone, Copy)]
+#[derive(Clone, Copy, Debug, PartialEq, Eq)]
 pub enum Entry {
     Free,
     On,

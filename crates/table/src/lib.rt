@@ -3,6 +3,7 @@
 
 pub mod build;
 pub mod check;
+mod convert;
 pub mod fault;
 pub mod mentions;
 mod node;
