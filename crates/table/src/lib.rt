@@ -5,6 +5,7 @@ pub mod build;
 pub mod check;
 mod convert;
 pub mod fault;
+mod known;
 pub mod mentions;
 mod node;
 pub mod questions;
