@@ -1,8 +1,8 @@
 //! The calls of a study that answer a figure. A refused call changes nothing.
-ghost use Rattle.std.specs.Prelude.{◌≡◌, ◌≤◌, false, length, drop, is_ok};
+ghost use Rattle.std.specs.Prelude.{◌≡◌, ◌≤◌, false, length, is_ok};
 ghost use Rattle.table.specs.Whole.{circuit, roles};
 ghost use Rattle.search.specs.Best.{Answers};
-ghost use Rattle.search.specs.Calls.{figure_refusals, bound_refusals, figure_held, bound_under, counted, paired, places};
+ghost use Rattle.search.specs.Calls.{figure_refusals, bound_refusals, figure_held, bound_under, counted, paired, BehindKept};
 ghost use Rattle.search.specs.Day.{Bounded};
 ghost use Rattle.search.specs.Select.{select as select_of};
 ghost use Rattle.search.specs.Study.{answered, changed_to};
@@ -26,7 +26,7 @@ pub fn figure<K: Figure>(
     work: &mut [K],
 ) -> Result<K, Fault>
     ensures answer { result ≡ answered (figure_refusals table.now holds.now sheet.now work.old) (figure_held table.now holds.now sheet.now K.ring) }
-    ensures behind { drop (places table.now) work.new ≡ drop (places table.now) work.old }
+    ensures behind { BehindKept table.now work.old work.new }
     ensures work { work.new ≡ changed_to (figure_refusals table.now holds.now sheet.now work.old) (counted table.now holds.now sheet.now K.ring work.old) work.old }
 {
     require_sheet(table, sheet.figures.len())?;
@@ -49,7 +49,7 @@ pub fn bound<K: Figure>(
     work: &mut [K],
 ) -> Result<K, Fault>
     ensures answer { result ≡ answered (bound_refusals table.now holds.now sheet.now work.old) (bound_under table.now holds.now sheet.now K.ring holds.now.entries) }
-    ensures behind { drop (places table.now) work.new ≡ drop (places table.now) work.old }
+    ensures behind { BehindKept table.now work.old work.new }
     ensures bounded { Bounded K.ring (roles table.now) (circuit table.now) holds.now.entries sheet.now.figures.now (bound_under table.now holds.now sheet.now K.ring holds.now.entries) }
     ensures work { work.new ≡ changed_to (bound_refusals table.now holds.now sheet.now work.old) (paired table.now holds.now sheet.now K.ring work.old) work.old }
 {
@@ -74,7 +74,7 @@ pub fn select<K: Figure, O: BranchingOrder<K>>(
 ) -> Result<Found<K>, Fault>
     ensures answer { result ≡ answered (bound_refusals table.now holds.now sheet.now work.old) (select_of K.ring (O.picks order.now) (roles table.now) (circuit table.now) sheet.now.figures.now holds.now.entries) }
     ensures best { length (roles table.now) ≤ length holds.now.entries → Answers K.ring (roles table.now) (circuit table.now) sheet.now.figures.now holds.now.entries (select_of K.ring (O.picks order.now) (roles table.now) (circuit table.now) sheet.now.figures.now holds.now.entries).best }
-    ensures behind { drop (places table.now) work.new ≡ drop (places table.now) work.old }
+    ensures behind { BehindKept table.now work.old work.new }
     ensures refused { is_ok result ≡ false → work.new ≡ work.old }
 {
     require_sheet(table, sheet.figures.len())?;

@@ -1,7 +1,7 @@
 //! A working day: a list of calls on one new study.
 ghost use Rattle.std.specs.Prelude.{◌≡◌, length, take, drop};
 ghost use Rattle.table.specs.Whole.{circuit, roles};
-ghost use Rattle.search.specs.Calls.{places};
+ghost use Rattle.search.specs.Calls.{BehindKept};
 ghost use Rattle.search.specs.Day.{Day, DaysAgree, NoStrays, new, book_of, answer, after};
 
 use crate::asking::{bound, figure, select};
@@ -26,10 +26,11 @@ pub fn ask<K: Figure, O: BranchingOrder<K>>(
 ) -> Result<Reply<K>, Fault>
     ensures answer { result ≡ answer K.ring (O.picks order.now) (roles table.now) (circuit table.now) (length work.old) (book_of holds.old sheet.old.figures.now) call }
     ensures holds { holds.new.entries ≡ (after (roles table.now) (circuit table.now) (length work.old) (book_of holds.old sheet.old.figures.now) call).holds }
-    ensures work { drop (places table.now) work.new ≡ drop (places table.now) work.old }
+    ensures work { BehindKept table.now work.old work.new }
     ensures same { sheet.new.figures.ghost_name ≡ sheet.old.figures.ghost_name }
     ensures sheet { sheet.new.figures.now ≡ (after (roles table.now) (circuit table.now) (length work.old) (book_of holds.old sheet.old.figures.now) call).sheet }
 {
+    // A match, and no closures or `dyn`: a day lists its calls as plain data.
     match call {
         Call::Hold { variable, on } => hold(table, holds, variable, on).map(|_| Reply::Done),
         Call::Release { variable } => release(table, holds, variable).map(|_| Reply::Done),
@@ -59,7 +60,7 @@ pub fn work_day<K: Figure, O: BranchingOrder<K>>(
     ensures only { DaysAgree K.ring (O.picks order.now) (roles table.now) (circuit table.now) (length work.old) }
     ensures own { NoStrays K.ring (O.picks order.now) (roles table.now) (circuit table.now) (length work.old) }
     ensures behind { drop (length calls.now) answers.new ≡ drop (length calls.now) answers.old }
-    ensures work { drop (places table.now) work.new ≡ drop (places table.now) work.old }
+    ensures work { BehindKept table.now work.old work.new }
     ensures same { sheet.new.figures.ghost_name ≡ sheet.old.figures.ghost_name }
 {
     let mut holds = Holds::new();

@@ -1,7 +1,7 @@
 //! Branch and bound: a loop with a trail.
-ghost use Rattle.std.specs.Prelude.{◌≡◌, ◌*◌, ◌^◌, ◌<◌, ◌≤◌, length, drop};
+ghost use Rattle.std.specs.Prelude.{◌≡◌, ◌*◌, ◌^◌, ◌<◌, ◌≤◌, length};
 ghost use Rattle.table.specs.Whole.{circuit, roles};
-ghost use Rattle.search.specs.Calls.{places};
+ghost use Rattle.search.specs.Calls.{places, BehindKept};
 ghost use Rattle.search.specs.Select.{best_figure, offered, of_table, select};
 ghost use Rattle.search.specs.Walk.{as_option, turn, back};
 
@@ -71,7 +71,7 @@ impl<K: Figure, O: BranchingOrder<K>> Plan<'_, K, O> {
         requires few { found.old.openings < 2 ^ 63 }
         ensures option { result ≡ as_option (turn K.ring (of_table K.ring (O.picks self.now.order.now) (roles self.now.table.now) (circuit self.now.table.now) self.now.sheet.now) levels holds.now.entries found.old).0 }
         ensures found { found.new ≡ (turn K.ring (of_table K.ring (O.picks self.now.order.now) (roles self.now.table.now) (circuit self.now.table.now) self.now.sheet.now) levels holds.now.entries found.old).1 }
-        ensures work { drop (places self.now.table.now) work.new ≡ drop (places self.now.table.now) work.old }
+        ensures work { BehindKept self.now.table.now work.old work.new }
     {
         let query = Query {
             table: self.table,
@@ -105,7 +105,7 @@ impl<K: Figure, O: BranchingOrder<K>> Plan<'_, K, O> {
     pub(crate) fn explore(&self, holds: &Holds, work: &mut [K]) -> Found<K>
         requires room { places self.now.table.now ≤ length work.old }
         ensures found { result ≡ select K.ring (O.picks self.now.order.now) (roles self.now.table.now) (circuit self.now.table.now) self.now.sheet.now holds.now.entries }
-        ensures work { drop (places self.now.table.now) work.new ≡ drop (places self.now.table.now) work.old }
+        ensures work { BehindKept self.now.table.now work.old work.new }
     {
         let levels = self.table.variables.options();
         // An array with a depth: the engine has no heap.

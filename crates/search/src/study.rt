@@ -1,4 +1,6 @@
 //! The calls of a study on its holds and its sheet. A refused call changes nothing.
+// No struct holds a study: its parts are lent one by one, so that a call's signature shows what the
+// call may change.
 ghost use Rattle.std.specs.Prelude.{◌≡◌};
 ghost use Rattle.passes.specs.Marks.{held};
 ghost use Rattle.passes.specs.declared.holds.Entry.TheVariants.{Free};

@@ -1,9 +1,9 @@
 //! A trial: the bound as it would be with one option held.
-ghost use Rattle.std.specs.Prelude.{◌≡◌, ◌*◌, ◌<◌, ◌≤◌, false, length, drop, is_ok};
+ghost use Rattle.std.specs.Prelude.{◌≡◌, ◌*◌, ◌<◌, ◌≤◌, false, length, is_ok};
 ghost use Rattle.table.specs.Whole.{circuit, roles};
 ghost use Rattle.passes.specs.Marks.{with_entry, held};
 ghost use Rattle.passes.specs.Passes.{bound as bound_of};
-ghost use Rattle.search.specs.Calls.{entries_with, trial_refusals, bound_under, places};
+ghost use Rattle.search.specs.Calls.{entries_with, trial_refusals, bound_under, places, BehindKept};
 ghost use Rattle.search.specs.Day.{Bounded};
 ghost use Rattle.search.specs.Study.{answered};
 
@@ -32,7 +32,7 @@ fn bound_if_held<K: Figure>(
     requires sheet { 2 * length (roles table.now) ≤ length sheet.now }
     ensures value { result ≡ bound_of K.ring (roles table.now) sheet.now (circuit table.now) (with_entry holds.old.entries variable (held on)) }
     ensures same { holds.new.entries ≡ holds.old.entries }
-    ensures behind { drop (places table.now) work.new ≡ drop (places table.now) work.old }
+    ensures behind { BehindKept table.now work.old work.new }
 {
     let place = variable as usize - 1;
     let before = holds.entries[place];
@@ -63,7 +63,7 @@ pub fn trial<K: Figure>(
     ensures answer { result ≡ answered (trial_refusals table.now holds.old sheet.now work.old variable) (bound_under table.now holds.old sheet.now K.ring (entries_with holds.old variable (held on))) }
     ensures bounded { Bounded K.ring (roles table.now) (circuit table.now) (entries_with holds.old variable (held on)) sheet.now.figures.now (bound_under table.now holds.old sheet.now K.ring (entries_with holds.old variable (held on))) }
     ensures holds { holds.new.entries ≡ holds.old.entries }
-    ensures behind { drop (places table.now) work.new ≡ drop (places table.now) work.old }
+    ensures behind { BehindKept table.now work.old work.new }
     ensures refused { is_ok result ≡ false → work.new ≡ work.old }
 {
     require_sheet(table, sheet.figures.len())?;
