@@ -1,6 +1,6 @@
 -- The reader line by line. Assumes nothing.
-use Rattle.std.proofs.Common.{◌≡◌, ℕ, ◌+◌, ◌-◌, ◌≤◌, true, false, ◌&&◌, leb, List, [], ◌∷◌, ◌++◌, length, take, drop, Ok, Err, Result, sym, refl, ap, ◌∙◌, subst, arith}
-use Rattle.std.proofs.lemmas.List.{length-take-le, take-append-drop, drop-drop}
+use Rattle.std.proofs.Common.{◌≡◌, ℕ, ◌+◌, ◌-◌, ◌<◌, ◌≤◌, true, false, ◌&&◌, leb, List, [], ◌∷◌, ◌++◌, length, take, drop, Ok, Err, Result, inl, inr, sym, refl, ap, ◌∙◌, subst, arith}
+use Rattle.std.proofs.lemmas.List.{length-take-le, take-append-drop, drop-drop, length-drop}
 use Rattle.std.proofs.lemmas.Bool.{cond-true, cond-false, and_from, le-leb}
 use Rattle.text.specs.declared.fault.Reason.{Reason}
 use Rattle.text.specs.declared.fault.Reason.TheVariants as reason
@@ -11,10 +11,11 @@ use Rattle.text.specs.declared.kind.Section.{Section}
 use Rattle.text.specs.declared.kind.Section.TheVariants as section
 use Rattle.text.specs.declared.record.Node.{Node}
 use Rattle.text.specs.declared.record.Contents.{Contents}
-use Rattle.text.specs.Lines.{every, printable, lines, fields}
+use Rattle.text.specs.Lines.{every, printable, index_of, lines, fields}
 use Rattle.text.specs.Format.{Rooms, rooms_for, Sofar, Reading, header_says, variable_says, entry_says, fitting, is_header, is_variable, section_at, kind_of, all_read, is_complete, by_section, by_fields, line_says, accepted, refused, read_on, nothing_yet, file_says, overwritten}
-use Rattle.text.specs.Steps.{State, state, sofar, rooms_of, Bounded, Taken, begun}
-use Rattle.text.proofs.Limits.{same_ok, provided_ok, then_ok, never}
+use Rattle.text.specs.Steps.{State, state, sofar, rooms_of, Bounded, Taken, begun, first_says}
+use Rattle.text.proofs.Cuts.{cut}
+use Rattle.text.proofs.Limits.{same_ok, same_err, provided_ok, then_ok, never}
 
 -- A line that is accepted ends at the next line's place.
 module _ (rooms : Rooms) (s : Sofar) (size : ℕ) (t : Sofar) where
@@ -46,17 +47,31 @@ module _ (rooms : Rooms) (s : Sofar) where
   read_complete (l ∷ ls) h = cond-true (is_complete s) _ _ h
 
   module _ (due : is_complete s ≡ false) where
-    pub read_missing : read_on rooms s [] ≡ refused s reason.Line
+    pub read_refused : (ls : List (List ℕ)) (r : Reason) → first_says rooms s ls ≡ Err r → read_on rooms s ls ≡ refused s r
     unfolding read_on
-    read_missing = cond-false (is_complete s) _ _ due
+    read_refused [] r e = cond-false (is_complete s) _ _ due ∙ ap (refused s) (same_err _ _ e)
+    read_refused (l ∷ ls) r e = cond-false (is_complete s) _ _ due ∙ ap (λ said. elim said [ Ok t ↦ read_on rooms t ls | Err x ↦ refused s x ]) e
 
-    pub read_refused : (l : List ℕ) (ls : List (List ℕ)) (r : Reason) → line_says rooms s l ≡ Err r → read_on rooms s (l ∷ ls) ≡ refused s r
+    pub read_taken : (ls : List (List ℕ)) (t : Sofar) → first_says rooms s ls ≡ Ok t → read_on rooms s ls ≡ read_on rooms t (drop 1 ls)
     unfolding read_on
-    read_refused l ls r e = cond-false (is_complete s) _ _ due ∙ ap (λ said. elim said [ Ok t ↦ read_on rooms t ls | Err x ↦ refused s x ]) e
+    read_taken [] t e = never reason.Line t e
+    read_taken (l ∷ ls) t e = cond-false (is_complete s) _ _ due ∙ ap (λ said. elim said [ Ok x ↦ read_on rooms x ls | Err x ↦ refused s x ]) e
 
-    pub read_taken : (l : List ℕ) (ls : List (List ℕ)) (t : Sofar) → line_says rooms s l ≡ Ok t → read_on rooms s (l ∷ ls) ≡ read_on rooms t ls
-    unfolding read_on
-    read_taken l ls t e = cond-false (is_complete s) _ _ due ∙ ap (λ said. elim said [ Ok x ↦ read_on rooms x ls | Err x ↦ refused s x ]) e
+-- the next line ends where the lines behind it begin
+pub next_place : (rooms : Rooms) (s t : Sofar) (file : List ℕ) → s.place ≤ length file → first_says rooms s (lines (drop s.place file)) ≡ Ok t
+    → (s.place < t.place) × (t.place ≤ length file) × (drop 1 (lines (drop s.place file)) ≡ lines (drop t.place file))
+next_place rooms s t file within e =
+    elim (cut (drop s.place file)) [
+      | inl b ↦ (
+          let l = take (index_of 10 (drop s.place file)) (drop s.place file) in
+          let on = line_place rooms s l t (sym (ap (first_says rooms s) b.lines_are) ∙ e) in (
+            omega (arith, on),
+            omega (arith, on, b.within, length-drop s.place file),
+            ap (drop 1) b.lines_are ∙ ap lines (drop-drop (length l + 1) s.place file) ∙ ap (λ p. lines (drop p file)) (sym on),
+          )
+          )
+      | inr none ↦ never reason.Line t (sym (ap (first_says rooms s) none) ∙ e)
+    ]
 
 -- what is kept from a place on is kept from a later one
 kept_on : {A : Type 0} (m n : ℕ) (xs ys zs : List A) → m ≤ n → drop n xs ≡ drop n ys → drop m ys ≡ drop m zs → drop n xs ≡ drop n zs
@@ -137,19 +152,16 @@ module _ (file : List ℕ) (ns : List Node) (cs : List ℕ) where
         ends _ _ (sym (ap (λ x. x.nodes) e)) (sym (ap (λ x. x.children) e)) (ap (λ x. x.answer) e)
 
     module _ (due : is_complete (sofar s) ≡ false) where
-      pub ends_missing : lines (drop s.at.place file) ≡ [] → Ends (read_on (rooms_for ns cs) nothing_yet (lines file)) (Err (fault.Line reason.Line s.at.line)) s.nodes s.children
-      ends_missing none = ends_refused reason.Line (ap (read_on (rooms_for ns cs) (sofar s)) none ∙ read_missing (rooms_for ns cs) (sofar s) due)
+      pub ends_line : (r : Reason) → first_says (rooms_for ns cs) (sofar s) (lines (drop s.at.place file)) ≡ Err r → Ends (read_on (rooms_for ns cs) nothing_yet (lines file)) (Err (fault.Line r s.at.line)) s.nodes s.children
+      ends_line r says = ends_refused r (read_refused (rooms_for ns cs) (sofar s) due (lines (drop s.at.place file)) r says)
 
-      pub ends_line : (l : List ℕ) (ls : List (List ℕ)) (r : Reason) → lines (drop s.at.place file) ≡ l ∷ ls → line_says (rooms_for ns cs) (sofar s) l ≡ Err r → Ends (read_on (rooms_for ns cs) nothing_yet (lines file)) (Err (fault.Line r s.at.line)) s.nodes s.children
-      ends_line l ls r are says = ends_refused r (ap (read_on (rooms_for ns cs) (sofar s)) are ∙ read_refused (rooms_for ns cs) (sofar s) due l ls r says)
-
-      pub goes_on : (t : State) (l : List ℕ) → lines (drop s.at.place file) ≡ l ∷ lines (drop (s.at.place + (length l + 1)) file) → s.at.place + (length l + 1) ≤ length file → length t.nodes ≡ length s.nodes → length t.children ≡ length s.children → Taken s t (line_says (rooms_for ns cs) (sofar s) l) → Going t
-      goes_on t l are inside nodes-same children-same taken =
-          let on = line_place (rooms_for ns cs) (sofar s) l (sofar t) taken.says in
+      pub goes_on : (t : State) → length t.nodes ≡ length s.nodes → length t.children ≡ length s.children → Taken s t (first_says (rooms_for ns cs) (sofar s) (lines (drop s.at.place file))) → Going t
+      goes_on t nodes-same children-same taken =
+          let on = next_place (rooms_for ns cs) (sofar s) (sofar t) file g.within taken.says in
           record {
-            reads = ap (λ p. read_on (rooms_for ns cs) (sofar t) (lines (drop p file))) on ∙ sym (read_taken (rooms_for ns cs) (sofar s) due l _ (sofar t) taken.says) ∙ sym (ap (read_on (rooms_for ns cs) (sofar s)) are) ∙ g.reads;
+            reads = ap (read_on (rooms_for ns cs) (sofar t)) (sym on.2) ∙ sym (read_taken (rooms_for ns cs) (sofar s) due (lines (drop s.at.place file)) (sofar t) taken.says) ∙ g.reads;
             bounded = taken.bounded;
-            within = omega (arith, on);
+            within = on.1;
             nodes_long = nodes-same ∙ g.nodes_long;
             children_long = children-same ∙ g.children_long;
             nodes_kept = kept_on s.at.nodes t.at.nodes t.nodes s.nodes ns taken.untouched.on.0 taken.untouched.nodes g.nodes_kept;

@@ -1,17 +1,35 @@
 -- What the lines leave in the stores. Assumes nothing.
-use Rattle.std.proofs.Common.{◌≡◌, ℕ, ◌+◌, ◌<◌, ◌≤◌, true, false, leb, List, [], ◌∷◌, ◌++◌, length, take, drop, set, Ok, Err, sym, ap, ◌∙◌, ap₂, add-zero, arith}
-use Rattle.std.proofs.lemmas.List.{append-nil, take-append-drop, length-append, length-drop, length-set, length-take-le, take_at, drop_at, take_more_set, drop-set-lt}
+use Rattle.std.proofs.Common.{◌≡◌, ℕ, ◌+◌, ◌<◌, ◌≤◌, true, false, leb, List, [], ◌∷◌, ◌++◌, map, length, get_or, take, drop, set, Ok, Err, sym, ap, ◌∙◌, ap₂, add-zero, zero-add, arith}
+use Rattle.std.specs.List.{enumerate_from}
+use Rattle.std.proofs.lemmas.List.Edits.{sets}
+use Rattle.std.proofs.lemmas.List.FromFn.{length-enumerate_from, get_or-enumerate_from}
+use Rattle.std.proofs.lemmas.List.{at_drop_more, append-nil, take-append-drop, length-append, length-drop, length-set, length-take-le, take_at, drop_at, take_more_set, drop-set-lt}
 use Rattle.std.proofs.lemmas.Bool.{and_parts, leb-true, cond-true, cond-false}
 use Rattle.text.specs.declared.fault.Reason.TheVariants as reason
 use Rattle.text.specs.declared.progress.Progress.{Progress}
 use Rattle.text.specs.declared.record.Node.{Node}
-use Rattle.text.specs.Format.{Said, Entry, Sofar, then, provided, fitting, with_node}
+use Rattle.text.specs.Format.{number_or_zero, Said, Entry, Sofar, then, provided, fitting, with_node}
 use Rattle.text.specs.Steps.{written_at, state, sofar, Bounded, Taken}
 
 -- nothing written
 pub written_none : {A : Type 0} (at : ℕ) (xs store : List A) → length xs ≡ 0 → written_at at xs store ≡ store
 written_none at [] store h = ap₂ (λ ys n. ys ++ drop n store) (append-nil (take at store)) (add-zero at) ∙ take-append-drop at store
 written_none at (x ∷ xs) store h = absurd (omega arith)
+
+-- the item n of an enumeration
+pub enumerated : {A : Type 0} (xs : List A) (n i : ℕ) (x : A) → (n < length (enumerate_from 0 xs)) × (◌≡◌ {A = ℕ × A} (i, x) (get_or (enumerate_from 0 xs) n (i, x)))
+    → (n < length xs) × (i ≡ n) × (x ≡ get_or xs n x)
+enumerated xs n i x h =
+    let l : n < length xs = omega (arith, h.0, length-enumerate_from 0 xs) in
+    let e = h.1 ∙ get_or-enumerate_from 0 xs n (i, x) l in
+    (l, ap (λ p. p.0) e ∙ zero-add n, ap (λ p. p.1) e)
+
+-- one number more written into a store: what is left to write gives the same
+pub one_written : (fs : List (List ℕ)) (store : List ℕ) (first k : ℕ) (f : List ℕ) → k < length fs → f ≡ get_or fs k f
+    → sets (set store (first + k) (number_or_zero f)) (first + (k + 1)) (map number_or_zero (drop (k + 1) fs)) ≡ sets store (first + k) (map number_or_zero (drop k fs))
+one_written fs store first k f within is =
+    ap₂ (λ x n. sets (set store (first + k) (number_or_zero x)) n (map number_or_zero (drop (k + 1) fs))) is (omega arith)
+    ∙ sym (at_drop_more (λ gs. sets store (first + k) (map number_or_zero gs)) fs k f within)
 
 module _ {A : Type 0} (at : ℕ) (xs store : List A) (fits : at + length xs ≤ length store) where
   front_length : length (take at store ++ xs) ≡ at + length xs

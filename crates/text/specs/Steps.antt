@@ -1,12 +1,13 @@
 -- What the parts of the reader hold, in the words of the format. Assumes nothing.
-use Rattle.std.specs.Prelude.{◌≡◌, ℕ, ◌+◌, ◌≤◌, List, [], ◌++◌, map, length, take, drop, Ok, Err, Result}
+use Rattle.std.specs.Prelude.{◌≡◌, ℕ, ◌+◌, ◌≤◌, List, [], ◌∷◌, ◌++◌, map, length, take, drop, Ok, Err, Result}
 use Rattle.text.specs.declared.fault.Reason.{Reason}
+use Rattle.text.specs.declared.fault.Reason.TheVariants as reason
 use Rattle.text.specs.declared.kind.Kind.{Kind}
 use Rattle.text.specs.declared.nodes.NodeLine.{NodeLine}
 use Rattle.text.specs.declared.progress.Progress.{Progress}
 use Rattle.text.specs.declared.record.Node.{Node}
 use Rattle.text.specs.declared.kind.Section.{Section}
-use Rattle.text.specs.Lines.{fields}
+use Rattle.text.specs.Lines.{lines, fields}
 use Rattle.text.specs.Format.{by_section, line_says, Said, Entry, entry_of, entry_says, number_or_zero, Rooms, rooms_for, Sofar, header_of, listed, variables_of}
 
 -- a store after numbers were written from a place on
@@ -90,3 +91,11 @@ says_in at k l s = by_section (rooms_of s) (sofar s) (length l) at k (drop 1 (fi
 -- what a line says
 abbrev pub says : List ℕ → State → Said Sofar
 says l s = line_says (rooms_of s) (sofar s) l
+
+-- what the first of the lines that are left says; there has to be one
+abbrev pub first_says : Rooms → Sofar → List (List ℕ) → Said Sofar
+first_says rooms s [] = Err reason.Line
+first_says rooms s (l ∷ ls) = line_says rooms s l
+
+abbrev pub next_says : List ℕ → State → Said Sofar
+next_says file s = first_says (rooms_of s) (sofar s) (lines (drop s.at.place file))

@@ -2,28 +2,17 @@
 ghost use Rattle.std.specs.Prelude.{◌≡◌, ◌+◌, ◌^◌, ◌<◌, ◌≤◌, true, false, map, length, drop, IfOk};
 ghost use Rattle.text.specs.Lines.{every, fields};
 ghost use Rattle.text.specs.Format.{section_at, all_read, fitting, listed, number_or_zero, file_says, overwritten, rooms_for, named_printable};
-ghost use Rattle.text.specs.Steps.{begun, state, says_in, says, Bounded, Steps, written_at};
+ghost use Rattle.text.specs.Steps.{begun, state, says_in, says, next_says, Bounded, Steps, written_at};
 ghost use Rattle.text.specs.declared.kind.Kind.TheVariants as kind;
 ghost use Rattle.text.specs.declared.kind.Section.TheVariants as section;
 
 use crate::fault::{Fault, Reason};
-use crate::fields::{NEWLINE, all_printable, field_count, find, from_field};
+use crate::fields::{all_printable, field_count, first_line};
 use crate::kind::{Kind, Section, line_kind};
 use crate::lines::{header_line, variable_line};
 use crate::nodes::{node_line, write_numbers};
 use crate::progress::Progress;
 use crate::record::{Contents, Header, Node, Variables};
-
-/// Writes the numbers in the fields of a line from the field `from` on.
-fn write_children(line: &[u8], from: usize, children: &mut [u16], place: usize)
-    requires within { from ≤ length (fields line.now) }
-    requires room { place + length (drop from (fields line.now)) ≤ length children.old }
-    ensures { children.new ≡ written_at place (map number_or_zero (drop from (fields line.now))) children.old }
-{
-    if from < field_count(line) {
-        write_numbers(from_field(line, from), children, place);
-    }
-}
 
 impl Progress {
     fn new() -> Progress
@@ -122,7 +111,7 @@ impl Progress {
         if !self.children_fit(count) {
             return Err(Reason::Children);
         }
-        write_children(line, said.from, children, self.children);
+        write_numbers(line, said.from, children, self.children);
         nodes[self.nodes] = Node {
             form: said.form,
             first: self.children as u16,
@@ -150,18 +139,29 @@ impl Progress {
         if !all_printable(line) {
             return Err(Reason::Line);
         }
-        let kind = line_kind(line);
-        match self.section() {
-            Section::Header => match kind {
-                Kind::Header => self.take_header(line, nodes, children),
-                _ => Err(Reason::Line),
-            },
-            Section::Variables => match kind {
-                Kind::Variable => self.take_variable(line, nodes, children),
-                _ => Err(Reason::Line),
-            },
-            Section::Nodes => self.take_node(kind, line, nodes, children),
+        match (self.section(), line_kind(line)) {
+            (Section::Header, Kind::Header) => self.take_header(line, nodes, children),
+            (Section::Variables, Kind::Variable) => self.take_variable(line, nodes, children),
+            (Section::Nodes, kind) => self.take_node(kind, line, nodes, children),
+            _ => Err(Reason::Line),
         }
+    }
+
+    /// The next line of a file, which has to have one more.
+    fn take_next(
+        &mut self,
+        file: &[u8],
+        nodes: &mut [Node],
+        children: &mut [u16],
+    ) -> Result<(), Reason>
+        requires bounded { Bounded (state self.old nodes.old children.old) }
+        requires due { all_read self.old.header self.old.line (length (listed self.old.variables)) self.old.nodes ≡ false }
+        requires within { self.old.place ≤ length file.now }
+        requires short { length file.now ≤ 65536 }
+        ensures { Steps (next_says file.now) (state self.old nodes.old children.old) (state self.new nodes.new children.new) result }
+    {
+        let line = first_line(&file[self.place..]).ok_or(Reason::Line)?;
+        self.take_line(line, nodes, children)
     }
 }
 
@@ -179,18 +179,9 @@ pub fn read_table(file: &[u8], nodes: &mut [Node], children: &mut [u16]) -> Resu
     let mut progress = Progress::new();
     while !progress.is_complete() {
         let line = progress.line;
-        let start = progress.place;
-        let end = start + find(&file[start..], NEWLINE);
-        if end == file.len() {
-            return Err(Fault::Line {
-                reason: Reason::Line,
-                line,
-            });
-        }
-        match progress.take_line(&file[start..end], nodes, children) {
-            Ok(()) => {}
-            Err(reason) => return Err(Fault::Line { reason, line }),
-        }
+        progress
+            .take_next(file, nodes, children)
+            .map_err(|reason| Fault::Line { reason, line })?;
     }
     Ok(Contents {
         variables: progress.variables,

@@ -29,17 +29,14 @@ returns-then-not-children_fit c =
     let fits = c.if-not-children_fit.ensures ∙ ap (fitting p.header p.nodes p.children) (counted (goal.at.returns-then-not-children_fit c).After-field_count) in
     (node_refused p c.args.nodes.now c.args.children.now (length c.args.line.now) e c.requires.bounded c.requires.due _ c.in_ok-said.ensures.0 (sym fits), refl, refl)
 
-pub write_children-requires : goal.write_children-requires
-write_children-requires c =
+pub write_numbers-requires : goal.write_numbers-requires
+write_numbers-requires c =
     let p = c.args.self.now in
     let fs = fields c.args.line.now in
     let said = c.in_ok-said.said in
     let e = entry_at fs said in
-    let fits = c.if-not-children_fit.ensures ∙ ap (fitting p.header p.nodes p.children) (counted (goal.at.write_children-requires c).After-field_count) in
-    record {
-      within = c.in_ok-said.ensures.1;
-      room = omega (arith, node_room p c.args.nodes.now c.args.children.now (length c.args.line.now) e c.requires.bounded c.requires.due (sym fits), length-map (drop said.from fs) number_or_zero);
-    }
+    let fits = c.if-not-children_fit.ensures ∙ ap (fitting p.header p.nodes p.children) (counted (goal.at.write_numbers-requires c).After-field_count) in
+    omega (arith, node_room p c.args.nodes.now c.args.children.now (length c.args.line.now) e c.requires.bounded c.requires.due (sym fits), length-map (drop said.from fs) number_or_zero)
 
 pub returns : goal.returns
 returns c =
@@ -47,4 +44,4 @@ returns c =
     let e = entry_at (fields c.args.line.now) c.in_ok-said.said in
     let count = counted (goal.at.returns c).After-field_count in
     let fits = c.if-not-children_fit.ensures ∙ ap (fitting p.header p.nodes p.children) count in
-    node_taken p c.args.nodes.now c.args.children.now (length c.args.line.now) e c.requires.bounded c.requires.due _ c.in_ok-said.ensures.0 (sym fits) c.requires.room _ count _ c.write_children.ensures
+    node_taken p c.args.nodes.now c.args.children.now (length c.args.line.now) e c.requires.bounded c.requires.due _ c.in_ok-said.ensures.0 (sym fits) c.requires.room _ count _ c.write_numbers.ensures
