@@ -1,6 +1,6 @@
 //! The pair pass: a value for every node, and its on and off value for each free option that it
 //! mentions.
-ghost use Rattle.std.specs.Prelude.{◌≡◌, ◌+◌, ◌*◌, ◌<◌, ◌≤◌, true, ◌++◌, length, take, drop, None};
+ghost use Rattle.std.specs.Prelude.{◌≡◌, ◌+◌, ◌*◌, ◌<◌, ◌≤◌, true, ◌++◌, length, take, drop, false, None};
 ghost use Rattle.table.specs.Circuit.{mentions};
 ghost use Rattle.table.specs.Facts.{about};
 ghost use Rattle.table.specs.Sound.{options as options_of};
@@ -81,17 +81,31 @@ impl<K: Figure> Step<'_, '_, '_, K> {
         self.query.holds.is_free(variable) && self.query.table.does_mention(self.node, variable)
     }
 
-    /// What stands in the node's part for a side: zero if there is no such value.
-    fn side(&self, side: Side) -> K
-        requires place { side.place < self.now.parts.stride }
-        requires variable { 0 < side.variable }
-        ensures { result ≡ side_or_zero K.ring (mentions (circuit self.now.query.now.table.now)) self.now.parts.stride self.now.parts.places.now (roles self.now.query.now.table.now) self.now.query.now.holds.now.entries (circuit self.now.query.now.table.now) self.now.node side.on side.variable side.place }
+    /// What stands in the node's part for an option, on and off: zero if there is no such value.
+    fn sides(&self, variable: u16, on_place: usize, off_place: usize) -> (K, K)
+        requires variable { 0 < variable }
+        requires on { on_place < self.now.parts.stride }
+        requires off { off_place < self.now.parts.stride }
+        ensures on { result.0 ≡ side_or_zero K.ring (mentions (circuit self.now.query.now.table.now)) self.now.parts.stride self.now.parts.places.now (roles self.now.query.now.table.now) self.now.query.now.holds.now.entries (circuit self.now.query.now.table.now) self.now.node true variable on_place }
+        ensures off { result.1 ≡ side_or_zero K.ring (mentions (circuit self.now.query.now.table.now)) self.now.parts.stride self.now.parts.places.now (roles self.now.query.now.table.now) self.now.query.now.holds.now.entries (circuit self.now.query.now.table.now) self.now.node false variable off_place }
     {
-        if self.is_open(side.variable) {
-            self.query.node_at(&side, &self.parts, self.node)
-        } else {
-            K::zero()
+        if !self.is_open(variable) {
+            return (K::zero(), K::zero());
         }
+        let on = Side {
+            variable,
+            on: true,
+            place: on_place,
+        };
+        let off = Side {
+            variable,
+            on: false,
+            place: off_place,
+        };
+        (
+            self.query.node_at(&on, &self.parts, self.node),
+            self.query.node_at(&off, &self.parts, self.node),
+        )
     }
 
     /// Writes the node's on and off value for each option behind the place of its value.
@@ -102,16 +116,9 @@ impl<K: Figure> Step<'_, '_, '_, K> {
         for (j, &variable) in self.options.iter().enumerate() {
             let on_place = 2 * j + 1;
             let off_place = 2 * j + 2;
-            part[on_place] = self.side(Side {
-                variable,
-                on: true,
-                place: on_place,
-            });
-            part[off_place] = self.side(Side {
-                variable,
-                on: false,
-                place: off_place,
-            });
+            let (on, off) = self.sides(variable, on_place, off_place);
+            part[on_place] = on;
+            part[off_place] = off;
         }
     }
 
@@ -167,6 +174,13 @@ fn list_options(table: &Table, out: &mut [u16]) -> usize
 }
 
 impl<K: Figure> Query<'_, K> {
+    /// How many places a work table needs for the pair pass.
+    pub fn pair_room(&self) -> usize
+        ensures { result ≡ length (circuit self.now.table.now) * (2 * length (options_of (roles self.now.table.now)) + 1) }
+    {
+        self.table.nodes.len() * (2 * self.table.variables.options() + 1)
+    }
+
     /// Writes a node's part, from those of the nodes before it.
     fn write_part(&self, options: &[u16], node: usize, places: &[K], part: &mut [K])
         requires listed { options.now ≡ options_of (roles self.now.table.now) }

@@ -59,6 +59,8 @@ impl<K: Figure> Query<'_, K> {
     }
 
     /// The value of a node, from the parts before it.
+    // Inlined, so that a side's variable is compared with the table's once, and not for each child.
+    #[inline(always)]
     fn node<W: Rule<K>>(&self, rule: &W, parts: &Parts<K>, node: Node) -> K
         requires fits { W.fits rule.now parts.now.stride }
         requires ranged { ranged self.now.table.now.children.now node ≡ true }
@@ -83,6 +85,7 @@ impl<K: Figure> Query<'_, K> {
     }
 
     /// The value of a node by its number, from the parts before it.
+    #[inline(always)]
     pub(crate) fn node_at<W: Rule<K>>(&self, rule: &W, parts: &Parts<K>, number: usize) -> K
         requires fits { W.fits rule.now parts.now.stride }
         requires node { number < length self.now.table.now.nodes.now }
