@@ -9,8 +9,8 @@ ghost use Rattle.passes.specs.Holding.{Keeps, Complete, selected};
 ghost use Rattle.passes.specs.Passes.{plains, plain_bound as plain_bound_of, pairs, bound, work as laid_out};
 
 use crate::figure::last_of;
+use crate::parts::Parts;
 use crate::query::Query;
-use crate::values::value_of;
 use kinds::figure::Figure;
 
 impl<K: Figure> Query<'_, K> {
@@ -37,6 +37,10 @@ impl<K: Figure> Query<'_, K> {
         self.pair_pass(work);
         let stride = 2 * self.table.variables.options() + 1;
         let root = self.table.nodes.len() - 1;
-        value_of(work, stride, root as u16)
+        Parts {
+            places: work,
+            stride,
+        }
+        .value(root as u16)
     }
 }

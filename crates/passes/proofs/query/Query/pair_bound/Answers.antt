@@ -19,29 +19,27 @@ use Rattle.passes.proofs.query.Query.pair_bound.Goals.{After-options}
 wide : (g : given.Over) (c : After-options g) → 2 * c.options.result + 1 ≡ 2 * length (options (roles c.args.self.now.table.now)) + 1
 wide g c = ap (λ n. 2 * n + 1) (c.options.ensures ∙ sym (options_many c.args.self.now.table.now))
 
-pub value_of-requires : goal.value_of-requires
-value_of-requires g c =
+pub value-requires : goal.value-requires
+value-requires g c =
     let t = c.args.self.now.table.now in
     let stride = 2 * c.options.result + 1 in
     let n = length t.nodes.now in
     let same : n * stride ≡ length (circuit t) * (2 * length (options (roles t)) + 1) =
-    ap₂ (λ a b. a * b) (sym (node_count t)) (wide g (goal.at.value_of-requires g c).After-options) in
-    record {
-      wide = omega arith;
-      inside = le-leb _ _ (omega (arith, last_part n stride (some_node t), same, c.requires.room, c.pair_pass.auto.work));
-    }
+    ap₂ (λ a b. a * b) (sym (node_count t)) (wide g (goal.at.value-requires g c).After-options) in
+    le-leb _ _ (omega (arith, last_part n stride (some_node t), same, c.requires.room, c.pair_pass.auto.work))
 
 pub returns : goal.returns
 returns g c =
-    let t = c.args.self.now.table.now in
+    let q = c.args.self.now in
+    let t = q.table.now in
     let R = g.K.Figure.ring in
     let laws = g.K.Figure.laws in
     let rs = roles t in
     let ss = circuit t in
-    let sheet = c.args.self.now.sheet.now in
-    let h = c.args.self.now.holds.now.entries in
+    let sheet = q.sheet.now in
+    let h = q.holds.now.entries in
     let good = proved_sound t in
-    let answer = c.value_of.ensures
+    let answer = c.value.ensures
     ∙ root_part_in R rs sheet (2 * c.options.result + 1) (wide g (goal.at.returns g c).After-options) _ _ _ _ c.pair_pass.ensures
     (upward_length (pair R rs sheet (mentions ss) h) ss ∙ node_count t) (some_node t) in
     record {
