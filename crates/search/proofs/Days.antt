@@ -8,11 +8,8 @@ use Rattle.table.specs.Sound.{Roles, is_option, options, sound, verdict, up_to}
 use Rattle.table.proofs.Listed.{every_at, some_at, some_among}
 use Rattle.passes.specs.Holding.{Entries, entry, is_free}
 use Rattle.passes.specs.Marks.{with_entry, held}
-use Rattle.passes.specs.Passes.{bound}
 use Rattle.passes.specs.declared.holds.Entry.{Entry}
 use Rattle.passes.specs.declared.holds.Entry.TheVariants.{Free}
-use Rattle.passes.proofs.Above.{covers}
-use Rattle.passes.proofs.Below.{tightens}
 use Rattle.search.specs.declared.call.Reply.TheVariants.{Value, Chosen}
 use Rattle.search.specs.declared.call.Call.{Call}
 use Rattle.search.specs.declared.call.Call.TheVariants.{Hold, Release, Weigh, Trial, Figure, Bound, Select}
@@ -21,9 +18,10 @@ use Rattle.search.specs.declared.fault.Fault.TheVariants.{StrayHold, NoOption, S
 use Rattle.search.specs.Faults.{fault_number}
 use Rattle.search.specs.Orders.{Order, Lawful}
 use Rattle.search.specs.Study.{Tests, first_fit, answer_unless, change_unless, stray_hold}
-use Rattle.search.specs.Day.{Book, new, tests, First, Passes, changed, after, Bounded, Says, Right, Day, over, asked, reply, Answer, answer, answers, book_after, DaysAgree, NoStrays}
+use Rattle.search.specs.Day.{Book, new, tests, First, Passes, changed, after, Says, Right, Day, over, asked, reply, Answer, answer, answers, book_after, DaysAgree, NoStrays}
 use Rattle.search.proofs.Holding.{entry_apart, entries_length, all_held}
 use Rattle.search.proofs.Best.{one_figure, selects}
+use Rattle.search.proofs.Bounds.{bounded}
 
 -- each refusal's number is below those of the refusals behind it
 abbrev rise : Tests → Bool
@@ -127,16 +125,13 @@ module _ {F : Type 0} (R : Semiring F) (pick : Order F) (rs : Roles) (ss : List 
 
 module _ {F : Type 0} (R : Semiring F) (laws : Laws R) (pick : Order F) (lawful : Lawful pick)
     (rs : Roles) (ss : List Shape) (accepted : verdict rs ss ≡ sound) where
-  bounded : (h : Entries) (sheet : List F) → Bounded R rs ss h sheet (bound R rs sheet ss h)
-  bounded h sheet = record { is_bound = refl; covers = covers R laws rs ss sheet accepted h; tight = tightens R laws rs ss sheet accepted h }
-
   module _ (work-size : ℕ) where
     replies : (b : Book F) (c : Call F) → length rs ≤ length b.holds → Passes rs ss work-size b c
         → Says R pick rs ss b c (Ok (reply R pick rs ss b c))
     replies b (Hold v s) room passes = refl
     replies b (Release v) room passes = refl
     replies b (Weigh v x y) room passes = refl
-    replies b (Trial v s) room passes = (_, refl, bounded (with_entry b.holds v (held s)) b.sheet)
+    replies b (Trial v s) room passes = (_, refl, bounded R laws rs ss accepted (with_entry b.holds v (held s)) b.sheet)
     replies b Figure room passes = (
       _,
       refl,
@@ -146,7 +141,7 @@ module _ {F : Type 0} (R : Semiring F) (laws : Laws R) (pick : Order F) (lawful 
             passes StillFree (inr (inr (inl (ap (λ t. (t, StillFree)) (some_among (λ x. is_free (entry b.holds x)) (options rs) v m e)))))));
       },
     )
-    replies b Bound room passes = (_, refl, bounded b.holds b.sheet)
+    replies b Bound room passes = (_, refl, bounded R laws rs ss accepted b.holds b.sheet)
     replies b Select room passes = (_, refl, record { is_select = refl; best = selects R laws pick lawful rs ss b.sheet accepted b.holds room })
 
     answers_right : (b : Book F) (c : Call F) → length rs ≤ length b.holds

@@ -1,5 +1,5 @@
 -- What a test answers, and tests of all variables at once. Assumes nothing.
-use Rattle.std.proofs.Common.{◌≡◌, ℕ, suc, ◌+◌, ◌-◌, ◌<◌, ◌≤◌, Bool, true, false, cond, ◌&&◌, ◌||◌, [], ◌∷◌, length, get_or, Ok, Err, Result, sym, refl, ap, ◌∙◌, ap₂, add-zero, zero-add, arith}
+use Rattle.std.proofs.Common.{◌≡◌, ℕ, suc, ◌+◌, ◌-◌, ◌<◌, Bool, true, false, cond, ◌&&◌, ◌||◌, [], ◌∷◌, length, get_or, Ok, Err, Result, sym, refl, ap, ◌∙◌, ap₂, add-zero, zero-add, arith}
 use Rattle.std.specs.List.{list_any, range_with_len, enumerate_from}
 use Rattle.table.specs.Circuit.{some}
 use Rattle.table.specs.Sound.{Roles, is_option, from, options, up_to}

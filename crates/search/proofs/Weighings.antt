@@ -1,11 +1,11 @@
 -- The reader of a weight text line by line. Assumes nothing.
-use Rattle.std.proofs.Common.{◌≡◌, ℕ, suc, ◌+◌, ◌-◌, ◌*◌, ◌<◌, ◌≤◌, Bool, true, false, cond, not, ◌&&◌, eqb, ltb, leb, List, [], ◌∷◌, ◌++◌, length, take, drop, replicate, Ok, Err, Option, Result, sym, refl, ap, ◌∙◌, subst, ap₂, inl, inr, arith}
+use Rattle.std.proofs.Common.{◌≡◌, ℕ, suc, ◌+◌, ◌*◌, ◌<◌, ◌≤◌, Bool, true, false, cond, not, ◌&&◌, eqb, ltb, leb, List, [], ◌∷◌, ◌++◌, length, take, drop, replicate, Ok, Err, Option, Result, sym, refl, ap, ◌∙◌, subst, ap₂, inl, inr, arith}
 use Rattle.std.proofs.lemmas.List.{length-set, length-drop, length-take-le, length-replicate}
-use Rattle.std.proofs.lemmas.Bool.{cases_Bool, cond-true, cond-false, and_parts, not_from_true, not_from_false, leb-true, ltb-true, lt-ltb, le-ltb}
+use Rattle.std.proofs.lemmas.Bool.{cases_Bool, cases_lt, cond-true, cond-false, and_parts, not_from_true, not_from_false, leb-true, ltb-true, lt-ltb, le-ltb}
 use Rattle.std.specs.List.{FoldsTo}
 use Rattle.text.specs.declared.fault.Reason.TheVariants as reason
 use Rattle.text.specs.Format.{Said, overwritten}
-use Rattle.text.specs.Lines.{index_of, lines}
+use Rattle.text.specs.Lines.{index_of, lines, BeginsWithLine}
 use Rattle.text.proofs.Cuts.{first_line, no_line}
 use Rattle.table.specs.Sound.{Roles, is_option, known}
 use Rattle.search.specs.declared.fault.Fault.{Fault}
@@ -26,7 +26,7 @@ filled_front n y xs new h ones long =
     ap₂ (λ a k. a ++ drop k xs) (ones ∙ ap (λ k. replicate k y) same) (sym (length-replicate n y))
 
 -- A text with a byte 10 is closed if what stands behind it is; a text without is closed if it is empty.
-pub closed_behind : (xs : List ℕ) → index_of 10 xs < length xs → is_closed xs ≡ is_closed (drop (suc (index_of 10 xs)) xs)
+closed_behind : (xs : List ℕ) → index_of 10 xs < length xs → is_closed xs ≡ is_closed (drop (suc (index_of 10 xs)) xs)
 closed_behind [] h = absurd (omega arith)
 closed_behind (x ∷ []) h =
     elim (eqb x 10) as (λ t. cond t 0 1 < 1 → t ≡ is_closed (drop (suc (cond t 0 1)) (x ∷ []))) [
@@ -39,7 +39,7 @@ closed_behind (x ∷ y ∷ ys) h =
       | false ↦ λ k. closed_behind (y ∷ ys) (omega arith)
     ] h
 
-pub not_closed : (xs : List ℕ) → length xs ≤ index_of 10 xs → 0 < length xs → is_closed xs ≡ false
+not_closed : (xs : List ℕ) → length xs ≤ index_of 10 xs → 0 < length xs → is_closed xs ≡ false
 not_closed [] h some = absurd (omega arith)
 not_closed (x ∷ []) h some =
     elim (eqb x 10) as (λ t. 1 ≤ cond t 0 1 → t ≡ false) [
@@ -51,6 +51,37 @@ not_closed (x ∷ y ∷ ys) h some =
       | true ↦ λ k. absurd (omega arith)
       | false ↦ λ k. not_closed (y ∷ ys) (omega arith) (omega arith)
     ] h
+
+-- the same by the first line, if there is one
+begins_at : (xs l : List ℕ) → BeginsWithLine xs l → (index_of 10 xs < length xs) × (length l ≡ index_of 10 xs)
+begins_at xs l b = elim (cases_lt (index_of 10 xs) (length xs)) [
+  | inl h ↦ (h, long h (first_line xs h))
+  | inr h ↦ absurd (none (no_line xs h) b.lines_are)
+]
+  where
+    none : lines xs ≡ [] → lines xs ≡ l ∷ lines (drop (length l + 1) xs) → ⊥
+    none e f = let z : ◌≡◌ {A = ℕ} 0 1 = cc in omega arith
+
+    long : index_of 10 xs < length xs → lines xs ≡ take (index_of 10 xs) xs ∷ lines (drop (suc (index_of 10 xs)) xs) → length l ≡ index_of 10 xs
+    long h e =
+        let f = b.lines_are in
+        let same : l ≡ take (index_of 10 xs) xs = cc in
+        ap length same ∙ length-take-le (index_of 10 xs) xs (omega arith)
+
+closed_line : (xs l : List ℕ) → BeginsWithLine xs l → is_closed xs ≡ is_closed (drop (length l + 1) xs)
+closed_line xs l b =
+    let at = begins_at xs l b in
+    let next : suc (index_of 10 xs) ≡ length l + 1 = omega arith in
+    closed_behind xs at.0 ∙ ap (λ n. is_closed (drop n xs)) next
+
+unclosed : (xs : List ℕ) → lines xs ≡ [] → 0 < length xs → is_closed xs ≡ false
+unclosed xs e some = elim (cases_lt (index_of 10 xs) (length xs)) [
+  | inl h ↦ absurd (none (first_line xs h))
+  | inr h ↦ not_closed xs h some
+]
+  where
+    none : lines xs ≡ take (index_of 10 xs) xs ∷ lines (drop (suc (index_of 10 xs)) xs) → ⊥
+    none f = let z : ◌≡◌ {A = ℕ} 0 1 = cc in omega arith
 
 -- The number on an accepted line is that of a variable.
 known_if : {F : Type 0} (line n : ℕ) (option : Bool) (v w : Weighing F) → cond (not (known n v.variable && not option)) (Err (WeightLine line)) (Ok v) ≡ Ok w → known n w.variable ≡ true
@@ -118,24 +149,21 @@ module _ {F : Type 0} (reading : List ℕ → Option F) (rs : Roles) where
           empty [] h = refl
           empty (x ∷ xs) h = absurd (omega arith)
 
-      pub ends_missing : 0 < length rest → length rest ≤ index_of 10 rest → whole ≡ refused sheet (in_text reason.Line line)
-      ends_missing some h = sym g.reads ∙ ap₂ (read_on reading rs sheet line) (no_line rest h) (not_closed rest h some) ∙ read_missing sheet line
+      pub ends_missing : 0 < length rest → lines rest ≡ [] → whole ≡ refused sheet (in_text reason.Line line)
+      ends_missing some h = sym g.reads ∙ ap₂ (read_on reading rs sheet line) h (unclosed rest h some) ∙ read_missing sheet line
 
-      -- the first line, and what stands behind it
-      module _ (l : List ℕ) (inside : index_of 10 rest < length rest) (is : l ≡ take (index_of 10 rest) rest) where
-        first : whole ≡ read_on reading rs sheet line (l ∷ lines (drop (suc (index_of 10 rest)) rest)) (is_closed (drop (suc (index_of 10 rest)) rest))
-        first =
-            sym g.reads
-            ∙ ap₂ (read_on reading rs sheet line) (first_line rest inside ∙ ap (λ x. x ∷ lines (drop (suc (index_of 10 rest)) rest)) (sym is)) (closed_behind rest inside)
+      module _ (l : List ℕ) (b : BeginsWithLine rest l) where
+        first : whole ≡ read_on reading rs sheet line (l ∷ lines (drop (length l + 1) rest)) (is_closed (drop (length l + 1) rest))
+        first = sym g.reads ∙ ap₂ (read_on reading rs sheet line) b.lines_are (closed_line rest l b)
 
         pub ends_refused : (f : Fault) → line_says reading rs line l ≡ Err f → whole ≡ refused sheet f
         ends_refused f e = first ∙ read_refused sheet line _ _ _ f e
 
-        pub goes_on : (w : Weighing F) (next : List F) (behind : List ℕ) → line_says reading rs line l ≡ Ok w → next ≡ weighed sheet w.variable w.on w.off → behind ≡ drop (suc (index_of 10 rest)) rest
+        pub goes_on : (w : Weighing F) (next : List F) (behind : List ℕ) → line_says reading rs line l ≡ Ok w → next ≡ weighed sheet w.variable w.on w.off → behind ≡ drop (length l + 1) rest
             → Going next (line + 1) behind
         goes_on w next behind e changed left = record {
           reads = ap₂ (λ x xs. read_on reading rs x (line + 1) (lines xs) (is_closed xs)) changed left ∙ sym (first ∙ read_taken sheet line _ _ _ w e);
-          few = omega (arith, g.few, inside, ap length left, length-drop (suc (index_of 10 rest)) rest);
+          few = omega (arith, g.few, b.within, ap length left, length-drop (length l + 1) rest);
           long = ap length changed ∙ length-set _ _ _ ∙ length-set _ _ _ ∙ g.long;
         }
 

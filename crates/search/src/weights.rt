@@ -13,7 +13,7 @@ use kinds::written::Written;
 use passes::sheet::Sheet;
 use table::table::Table;
 use text::fault::{Fault as TextFault, Reason};
-use text::fields::{NEWLINE, all_printable, field, field_count, find};
+use text::fields::{all_printable, field, field_count, first_line};
 use text::lines::number_field;
 
 /// Whether a line has its bytes, its fields and its letter.
@@ -79,16 +79,13 @@ pub fn read_weights<K: Written>(
     let mut line = 1;
     let mut rest = text;
     while !rest.is_empty() {
-        let end = find(rest, NEWLINE);
-        if end == rest.len() {
-            return Err(Fault::from(TextFault::Line {
-                reason: Reason::Line,
-                line,
-            }));
-        }
-        let weighing = weight_line(table, &rest[..end], line)?;
+        let Some(content) = first_line(rest) else {
+            let reason = Reason::Line;
+            return Err(Fault::from(TextFault::Line { reason, line }));
+        };
+        let weighing = weight_line(table, content, line)?;
         sheet.weigh(weighing.variable, weighing.on, weighing.off);
-        rest = &rest[end + 1..];
+        rest = &rest[content.len() + 1..];
         line += 1;
     }
     Ok(())

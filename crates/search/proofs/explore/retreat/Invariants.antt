@@ -1,4 +1,4 @@
-use Rattle.std.proofs.Common.{◌≡◌, ◌≤◌}
+use Rattle.std.proofs.Common.{◌≡◌}
 use Rattle.search.specs.Walk.{back}
 use Rattle.search.proofs.explore.retreat.Given as goal
 

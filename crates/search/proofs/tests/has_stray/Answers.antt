@@ -1,8 +1,7 @@
-use Rattle.std.proofs.Common.{◌≡◌, ℕ, Bool, ◌+◌, not, ◌&&◌, ◌∙◌, rules}
+use Rattle.std.proofs.Common.{ℕ, Bool, ◌+◌, not, ◌&&◌, ◌∙◌, rules}
 use Rattle.std.proofs.lemmas.Iterator.{YieldsList-from_slice}
 use Rattle.std.proofs.lemmas.Iterator.Consumers.{YieldsList-from_enumerate}
 use Rattle.std.proofs.lemmas.Iterator.Search.{any_from_yields_List}
-use Rattle.std.specs.List.{list_any, enumerate_from}
 use Rattle.table.specs.Sound.{is_option}
 use Rattle.table.specs.Whole.{roles}
 use Rattle.passes.specs.Holding.{is_free}

@@ -1,16 +1,16 @@
-use Rattle.std.proofs.Common.{◌≡◌, ℕ, suc, ◌+◌, ◌*◌, ◌<◌, ◌≤◌, length, take, drop, Err, sym, refl, ap, ◌∙◌, subst, arith}
+use Rattle.std.proofs.Common.{◌≡◌, ℕ, length, Err, sym, refl, ap, ◌∙◌, arith}
 use Rattle.std.proofs.lemmas.List.{length-map, take_rest}
 use Rattle.std.proofs.lemmas.Result.{err_from_is_err_and}
 use Rattle.std.proofs.lemmas.Bool.{ltb-true, ltb-false, eqb-true, eqb-false}
 use Rattle.text.specs.declared.record.Variables.{Variables}
 use Rattle.text.specs.Format.{listed}
-use Rattle.text.specs.Lines.{index_of, lines}
+use Rattle.text.specs.Lines.{lines}
 use Rattle.table.specs.Nodes.{is_option_role, roles_of}
 use Rattle.table.specs.Whole.{roles}
 use Rattle.search.specs.Study.{short_sheet}
 use Rattle.search.specs.Weights.{Reading, is_closed, read_on, weights_say}
 use Rattle.search.proofs.Testing.{refuses, passes}
-use Rattle.search.proofs.Weighings.{ends, ends_missing, ends_refused, goes_on, says_short, says_whole, weighing_fits}
+use Rattle.search.proofs.Weighings.{ends, ends_missing, ends_refused, goes_on, says_short, says_whole}
 use Rattle.search.proofs.weights.read_weights.Given as given
 use Rattle.search.proofs.weights.read_weights.Goals as goal
 use Rattle.search.proofs.weights.read_weights.Goals.{After-write_ones}
@@ -38,33 +38,27 @@ whole g c told e =
     let long = ltb-false _ _ (passes (short_sheet rs (length sheet)) c.require_sheet.result c.require_sheet.ensures c.in_ok-require_sheet.was) in
     says_whole g.K.Written.reading rs g.K.Figure.ring.one sheet c.args.text.now _ c.write_ones.new.figures n (omega (arith, n, long)) c.write_ones.ensures told e
 
-pub returns-then-end-rest : goal.returns-then-end-rest
-returns-then-end-rest g c =
-    let at = (goal.at.returns-then-end-rest g c).After-write_ones in
+pub returns-in_default : goal.returns-in_default
+returns-in_default g c =
+    let at = (goal.at.returns-in_default g c).After-write_ones in
     let e = whole g at _ (ends_missing g.K.Written.reading (roles c.args.table.now) c.args.text.now c.write_ones.new.figures c.loop-rest.sheet.figures.now c.loop-rest.line c.loop-rest.rest.now c.loop-rest.invariant.0
-    (omega (arith, eqb-false (length c.loop-rest.rest.now) 0 (sym c.loop-rest-test.ensures))) (omega (arith, c.find-end.ensures.value))) in
+    (omega (arith, eqb-false (length c.loop-rest.rest.now) 0 (sym c.loop-rest-test.ensures))) c.in_default.ensures) in
     record { same = c.loop-rest.invariant.1; answer = ap Err c.from.ensures ∙ sym (ap (λ x. x.answer) e); sheet = sym (ap (λ x. x.sheet) e) }
 
 pub returns-in_err-weighing : goal.returns-in_err-weighing
 returns-in_err-weighing g c =
     let at = (goal.at.returns-in_err-weighing g c).After-write_ones in
-    let rest = c.loop-rest.rest.now in
     let p = err_from_is_err_and c.from_residual-in_err-weighing.result c.from_residual-in_err-weighing.ensures.1 in
-    let e = whole g at _ (ends_refused g.K.Written.reading (roles c.args.table.now) c.args.text.now c.write_ones.new.figures c.loop-rest.sheet.figures.now c.loop-rest.line rest c.loop-rest.invariant.0
-    _ (omega (arith, c.find-end.ensures)) (ap (λ n. take n rest) c.find-end.ensures.value) _ (sym c.in_err-weighing.ensures)) in
+    let e = whole g at _ (ends_refused g.K.Written.reading (roles c.args.table.now) c.args.text.now c.write_ones.new.figures c.loop-rest.sheet.figures.now c.loop-rest.line c.loop-rest.rest.now c.loop-rest.invariant.0
+    _ c.in-Some.ensures _ (sym c.in_err-weighing.ensures)) in
     record { same = c.loop-rest.invariant.1; answer = p.1 ∙ ap Err p.2 ∙ sym (ap (λ x. x.answer) e); sheet = sym (ap (λ x. x.sheet) e) }
 
 pub loop-rest-preserved : goal.loop-rest-preserved
-loop-rest-preserved g c =
-    let rest = c.loop-rest.rest.now in
-    let reading = g.K.Written.reading in
-    let rs = roles c.args.table.now in
-    let next : c.find-end.result + 1 ≡ suc (index_of 10 rest) = omega (arith, c.find-end.ensures) in (
-      goes_on reading rs c.args.text.now c.write_ones.new.figures c.loop-rest.sheet.figures.now c.loop-rest.line rest c.loop-rest.invariant.0
-          _ (omega (arith, c.find-end.ensures)) (ap (λ n. take n rest) c.find-end.ensures.value) c.in_ok-weighing.weighing _ _ (sym c.in_ok-weighing.ensures) c.weigh.ensures.after
-          (take_rest rest (c.find-end.result + 1) ∙ ap (λ n. drop n rest) next),
-      c.weigh.ensures.same ∙ c.loop-rest.invariant.1,
-    )
+loop-rest-preserved g c = (
+  goes_on g.K.Written.reading (roles c.args.table.now) c.args.text.now c.write_ones.new.figures c.loop-rest.sheet.figures.now c.loop-rest.line c.loop-rest.rest.now c.loop-rest.invariant.0
+      _ c.in-Some.ensures c.in_ok-weighing.weighing _ _ (sym c.in_ok-weighing.ensures) c.weigh.ensures.after (take_rest c.loop-rest.rest.now _),
+  c.weigh.ensures.same ∙ c.loop-rest.invariant.1,
+)
 
 pub returns : goal.returns
 returns g c =
