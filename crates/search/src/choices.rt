@@ -47,6 +47,7 @@ fn list_choices(table: &Table, holds: &Holds, out: &mut [Choice]) -> usize
     ensures listed { take result out.new ≡ choices_of (roles table.now) (circuit table.now) holds.now.entries }
     ensures few { result ≤ length (roles table.now) }
 {
+    // Two counts: places go by `index`, over all options, and `count` is that of the free ones.
     let mut count = 0;
     let mut index = 0;
     for i in 0..table.variables.as_slice().len() {
