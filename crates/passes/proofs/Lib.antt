@@ -1,4 +1,3 @@
-pub mod Marking
 pub mod Products
 pub mod Reading
 pub mod Passing
@@ -12,6 +11,6 @@ pub mod Made
 pub mod Splits
 pub mod Figures
 pub mod Filters
-pub mod Parts
+pub mod PairParts
 pub mod Above
 pub mod Below
