@@ -1,5 +1,5 @@
 //! Circuits, sound and spoiled.
-use crate::files::{PLANT, file};
+use plants::files::{PLANT, file};
 use crate::stores::check_file;
 use std::test::Fail;
 

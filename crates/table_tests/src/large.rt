@@ -1,5 +1,5 @@
 //! The largest table.
-use crate::files::file;
+use plants::files::file;
 use crate::stores::check_file;
 use std::alloc::{AllocError, Global};
 use std::fmt::Write;

@@ -1,6 +1,6 @@
 //! Records that no reader wrote.
-use crate::files::file;
-use crate::stores::{Refusal, Stores, check_answer};
+use plants::files::file;
+use crate::stores::{Refusal, check_answer, read};
 use std::test::Fail;
 use text::record::{Form, Node, Variables};
 
@@ -55,7 +55,7 @@ const CASES: &[(Form, u16, u16, &[u16], u8)] = &[
 #[test]
 fn records(rt: HostRuntime) -> Result<(), Fail> {
     let text = file("R", "T", rt.alloc())?;
-    let variables = Stores::read(text.as_str(), rt.alloc())?.variables;
+    let variables = read(text.as_str(), rt.alloc())?.variables;
     for (form, first, count, children, number) in CASES {
         let node = Node {
             form: *form,
@@ -94,7 +94,7 @@ const COUNTS: &[(usize, u8, Refusal)] = &[
 #[test]
 fn counts(rt: HostRuntime) -> Result<(), Fail> {
     let text = file("E", "T", rt.alloc())?;
-    let option = Stores::read(text.as_str(), rt.alloc())?.variables.all[0];
+    let option = read(text.as_str(), rt.alloc())?.variables.all[0];
     for (nodes, options, due) in COUNTS {
         assert!(rt; *options <= 64);
         let variables = Variables {
