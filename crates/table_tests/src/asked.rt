@@ -1,7 +1,7 @@
 //! What a checked table says.
-use plants::files::PLANT;
 use crate::large::large;
 use crate::stores::read;
+use plants::files::PLANT;
 use plants::stores::Stores;
 use std::process::Abort;
 use std::test::Fail;

@@ -1,6 +1,6 @@
 //! Records that no reader wrote.
+use crate::stores::{Due, check_answer, read};
 use plants::files::file;
-use crate::stores::{Refusal, check_answer, read};
 use std::test::Fail;
 use text::record::{Form, Node, Variables};
 
@@ -25,31 +25,31 @@ const OFF: Node = Node {
 const FORK: Form = Form::Fork { variable: 1 };
 
 // What a third node behind the two literals is, where its children begin and how many they are,
-// the child store, and the number of the refusal for one chance, or 0 for none.
-const CASES: &[(Form, u16, u16, &[u16], u8)] = &[
+// the child store, and the number of the refusal for one chance, if it is refused.
+const CASES: &[(Form, u16, u16, &[u16], Option<u8>)] = &[
     // an and whose children pass the end of the store
-    (Form::And, 0, 2, &[0], 8),
-    (Form::And, 1, 1, &[0], 8),
-    (Form::And, 0, 1, &[], 8),
-    (Form::And, 65535, 1, &[0, 1], 8),
-    (Form::And, 1, 65535, &[0, 1], 8),
-    (Form::And, 65535, 65535, &[0, 1], 8),
+    (Form::And, 0, 2, &[0], Some(8)),
+    (Form::And, 1, 1, &[0], Some(8)),
+    (Form::And, 0, 1, &[], Some(8)),
+    (Form::And, 65535, 1, &[0, 1], Some(8)),
+    (Form::And, 1, 65535, &[0, 1], Some(8)),
+    (Form::And, 65535, 65535, &[0, 1], Some(8)),
     // a fork whose children do
-    (FORK, 0, 2, &[0], 8),
-    (FORK, 0, 2, &[], 8),
-    (FORK, 1, 2, &[0, 1], 8),
-    (FORK, 2, 2, &[0, 1], 8),
-    (FORK, 65534, 2, &[0, 1], 8),
-    (FORK, 65535, 2, &[0, 1], 8),
+    (FORK, 0, 2, &[0], Some(8)),
+    (FORK, 0, 2, &[], Some(8)),
+    (FORK, 1, 2, &[0, 1], Some(8)),
+    (FORK, 2, 2, &[0, 1], Some(8)),
+    (FORK, 65534, 2, &[0, 1], Some(8)),
+    (FORK, 65535, 2, &[0, 1], Some(8)),
     // children that end with the store, or before
-    (Form::And, 1, 1, &[9, 0], 0),
-    (Form::And, 1, 1, &[9, 0, 9], 0),
-    (FORK, 1, 2, &[9, 0, 1], 0),
-    (FORK, 1, 2, &[9, 0, 1, 9], 0),
-    (Form::And, 1, 0, &[0], 13),
+    (Form::And, 1, 1, &[9, 0], None),
+    (Form::And, 1, 1, &[9, 0, 9], None),
+    (FORK, 1, 2, &[9, 0, 1], None),
+    (FORK, 1, 2, &[9, 0, 1, 9], None),
+    (Form::And, 1, 0, &[0], Some(13)),
     // a number in the store that no node has
-    (Form::And, 1, 1, &[0, 65535], 8),
-    (FORK, 0, 2, &[0, 65535], 8),
+    (Form::And, 1, 1, &[0, 65535], Some(8)),
+    (FORK, 0, 2, &[0, 65535], Some(8)),
 ];
 
 #[test]
@@ -62,13 +62,12 @@ fn records(rt: HostRuntime) -> Result<(), Fail> {
             first: *first,
             count: *count,
         };
-        let place = if *number == 0 { 0 } else { 2 };
         check_answer(
             &rt,
             &[ON, OFF, node],
             *children,
             &variables,
-            (*number, place),
+            number.map(|n| (n, 2)),
             &[1, 1, 1],
             &format_args!("{first} {count}"),
         );
@@ -76,19 +75,19 @@ fn records(rt: HostRuntime) -> Result<(), Fail> {
     Ok(())
 }
 
-// How many true nodes, how many options, and the refusal.
-const COUNTS: &[(usize, u8, Refusal)] = &[
-    (1, 1, (0, 0)),
-    (4096, 20, (0, 0)),
-    (0, 1, (4, 1)),
-    (4097, 1, (4, 1)),
-    (65537, 1, (4, 1)),
-    (1, 0, (4, 1)),
-    (0, 0, (4, 1)),
-    (1, 21, (6, 22)),
-    (4096, 64, (6, 65)),
-    (0, 21, (4, 1)),
-    (4097, 64, (4, 1)),
+// How many true nodes, how many options, and the refusal, if there is one.
+const COUNTS: &[(usize, u8, Due)] = &[
+    (1, 1, None),
+    (4096, 20, None),
+    (0, 1, Some((4, 1))),
+    (4097, 1, Some((4, 1))),
+    (65537, 1, Some((4, 1))),
+    (1, 0, Some((4, 1))),
+    (0, 0, Some((4, 1))),
+    (1, 21, Some((6, 22))),
+    (4096, 64, Some((6, 65))),
+    (0, 21, Some((4, 1))),
+    (4097, 64, Some((4, 1))),
 ];
 
 #[test]

@@ -1,18 +1,18 @@
 //! What a file is read into, and what the check makes of it.
+use parts::stores::Room;
+use plants::stores::Stores;
 use std::alloc::Global;
 use std::fmt::Display;
 use std::process::Abort;
 use std::test::Fail;
-use parts::stores::Room;
-use plants::stores::Stores;
 use table::check::check as check_table;
 use table::mentions::Mentions;
 use text::fault::Layer;
 use text::record::{Form, Node, Variables};
 use text::refusal::Refusal;
 
-/// The number and the place of a refusal, or twice 0 for none.
-pub type Refusal = (u8, usize);
+/// The number and the place of a refusal that is due, if one is.
+pub type Due = Option<(u8, usize)>;
 
 /// Stores with marks in them, which would show where the reader leaves a place unwritten.
 const MARKED: Room = Room {
@@ -35,7 +35,7 @@ pub(crate) fn read(file: &str, heap: Global) -> Result<Stores, Fail> {
 pub(crate) fn check_file(
     rt: &impl Abort,
     file: &str,
-    due: Refusal,
+    due: Due,
     sets: &[u64],
     heap: Global,
     case: &impl Display,
@@ -59,18 +59,22 @@ pub(crate) fn check_answer(
     nodes: &[Node],
     children: &[u16],
     variables: &Variables,
-    due: Refusal,
+    due: Due,
     sets: &[u64],
     case: &impl Display,
 ) {
     match check_table(nodes, children, variables) {
         Ok(mentions) => {
-            assert_eq!(rt; (0, 0), due, "{case}");
+            assert_eq!(rt; None, due, "{case}");
             check_sets(rt, &mentions, sets, case)
         }
         Err(fault) => {
-            assert_eq!(rt; (fault.number(), fault.place()), due, "{case}");
-            assert_eq!(rt; matches!(fault.layer(), Layer::Table), due.0 >= 8, "{case}");
+            assert_eq!(rt; Some((fault.number(), fault.place())), due, "{case}");
+            assert_eq!(rt;
+                matches!(fault.layer(), Layer::Table),
+                fault.number() >= 8,
+                "{case}"
+            );
         }
     }
 }
