@@ -1,9 +1,9 @@
 //! What the three passes answer.
-use plants::stores::Stores;
 use kinds::figure::Figure;
 use passes::bounds::{pair_bound, plain_bound};
 use passes::figure::count_figure;
 use passes::holds::Holds;
+use plants::stores::Stores;
 use std::test::Fail;
 use table::check::check as check_table;
 use table::table::Table;
