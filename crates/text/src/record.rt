@@ -50,7 +50,7 @@ pub struct Variables {
 }
 
 /// The counts that the first line gives.
-#[derive(Clone, Copy, Debug, PartialEq, Eq)]
+#[derive(Clone, Copy, Debug, Default, PartialEq, Eq)]
 pub struct Header {
     pub variables: u16,
     pub nodes: u16,
