@@ -27,6 +27,7 @@ pub trait Written: Figure + fmt::Display {
         self.to_string(heap)
     }
 
+    // What `{}` writes of a figure is its text.
     ghost shown: { (f : Self) → Self.output f ≡ Some (text f) };
 }
 
