@@ -3,7 +3,7 @@ use Rattle.table.specs.Whole.{circuit, roles}
 use Rattle.search.specs.Calls.{places}
 use Rattle.search.specs.Day.{new, book_of}
 use Rattle.search.proofs.Running.{Left}
-use Rattle.search.proofs.day.run_day.Given as goal
+use Rattle.search.proofs.day.work_day.Given as goal
 
 abbrev pub invariant-loop-i : goal.invariant-loop-i
 invariant-loop-i g l =
