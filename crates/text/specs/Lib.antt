@@ -4,3 +4,4 @@ pub mod Printed
 pub mod Faults
 pub mod Format
 pub mod Steps
+pub mod Shown

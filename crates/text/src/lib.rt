@@ -11,4 +11,5 @@ pub mod progress;
 pub mod reader;
 pub mod record;
 pub mod refusal;
+pub mod shown;
 pub mod variables;
