@@ -13,6 +13,7 @@ use std::time::Instant;
 use std::{env, io};
 use table::check::check;
 use table::table::Table;
+use text::refusal::Refusal;
 
 /// How many options are held in the runs.
 const HELD: &[u16] = &[0, 10];
@@ -22,12 +23,7 @@ const WORK_ROOM: usize = 167_936;
 
 /// The number of repeats that is asked for, if any.
 fn asked(rt: &HostRuntime) -> io::Result<Option<u32>> {
-    let mut words = env::args(rt)?;
-    let _ = words.next();
-    match words.next() {
-        Some(word) => Ok(word.parse::<u32>().ok()),
-        None => Ok(None),
-    }
+    Ok(env::args(rt)?.nth(1).and_then(|word| word.parse().ok()))
 }
 
 /// Prints a kind's bounds, and how long each takes if that is asked for.
@@ -39,8 +35,8 @@ fn run<K: Written + Clone>(
     repeats: Option<u32>,
 ) -> io::Result<()> {
     let mut work = vec![in rt.alloc(); K::zero(); WORK_ROOM]?;
-    for held in HELD {
-        let holds = holds_of(*held);
+    for &held in HELD {
+        let holds = holds_of(held);
         let start = Instant::now(rt)?;
         let bound = repeat_bound(table, sheet, &holds, &mut work, repeats.unwrap_or(1));
         let time = start.elapsed(rt)?;
@@ -48,7 +44,7 @@ fn run<K: Written + Clone>(
             Some(figure) => figure.write(rt.alloc())?,
             None => format!(in rt.alloc(); "none")?,
         };
-        let free = table.variables.options().saturating_sub(*held as usize);
+        let free = table.variables.options().saturating_sub(held as usize);
         println!(rt; "{kind}\tfree options {free}\tbound {text}")?;
         if let Some(count) = repeats {
             if let Some(each) = time.checked_div(count) {

@@ -32,8 +32,6 @@ pub struct Plant {
     pub nodes: Vec<Node>,
     pub children: Vec<u16>,
     pub variables: Variables,
-    node_count: u16,
-    child_count: u16,
 }
 
 /// What the forks of one level decide: a variable, and for an upper level a second one that goes
@@ -57,27 +55,29 @@ fn variables() -> Variables {
         role: Role::Chance,
         name,
     }; 64];
-    for i in 0..OPTIONS {
-        all[i] = Variable {
-            role: Role::Option,
-            name,
-        };
-    }
+    all[..OPTIONS].fill(Variable {
+        role: Role::Option,
+        name,
+    });
     Variables { all, count: 64 }
 }
 
 /// The node of a literal: these come first.
 fn literal(variable: u16, on: bool) -> u16 {
-    let off = variable.wrapping_mul(2).wrapping_sub(1);
-    if on { off.wrapping_sub(1) } else { off }
+    variable
+        .wrapping_mul(2)
+        .wrapping_sub(if on { 2 } else { 1 })
 }
 
 /// A node of a list, counted round and round.
-fn pick(nodes: &[u16], place: u16) -> u16 {
-    if nodes.len() == 0 {
-        return 0;
-    }
-    nodes[place as usize % nodes.len()]
+fn pick(nodes: &[u16], place: u16) -> Option<u16> {
+    let place = (place as usize).checked_rem(nodes.len())?;
+    nodes.get(place).copied()
+}
+
+/// How many there are, or the highest number.
+fn count(items: usize) -> u16 {
+    u16::try_from(items).unwrap_or(u16::MAX)
 }
 
 impl Plant {
@@ -87,24 +87,16 @@ impl Plant {
             nodes: Vec::new(heap),
             children: Vec::new(heap),
             variables: variables(),
-            node_count: 0,
-            child_count: 0,
         };
         plant.add_all(heap)?;
         Ok(plant)
     }
 
     fn add_all(&mut self, heap: Global) -> Result<(), AllocError> {
-        for i in 0..VARIABLES {
-            let variable = i.wrapping_add(1);
-            self.add(Form::Literal { variable, on: true }, &[])?;
-            self.add(
-                Form::Literal {
-                    variable,
-                    on: false,
-                },
-                &[],
-            )?;
+        for variable in 1..=VARIABLES {
+            for on in [true, false] {
+                self.add(Form::Literal { variable, on }, &[])?;
+            }
         }
         let yes = self.add(Form::True, &[])?;
         let no = self.add(Form::False, &[])?;
@@ -116,15 +108,11 @@ impl Plant {
 
     /// Adds a node: its number.
     fn add(&mut self, form: Form, children: &[u16]) -> Result<u16, AllocError> {
-        let number = self.node_count;
-        let first = self.child_count;
-        for c in children {
-            self.children.push(*c)?;
-            self.child_count = self.child_count.wrapping_add(1);
-        }
-        let count = self.child_count.wrapping_sub(first);
+        let number = count(self.nodes.len());
+        let first = count(self.children.len());
+        self.children.extend_from_slice(children)?;
+        let count = count(children.len());
         self.nodes.push(Node { form, first, count })?;
-        self.node_count = number.wrapping_add(1);
         Ok(number)
     }
 
@@ -141,9 +129,11 @@ impl Plant {
         if let Some(tied) = level.tied {
             parts.push(literal(tied, on != (place % 3 == 0)))?;
         }
-        parts.push(pick(level.below, place))?;
-        if level.beside.len() > 0 {
-            parts.push(pick(level.beside, place / 9))?;
+        if let Some(below) = pick(level.below, place) {
+            parts.push(below)?;
+        }
+        if let Some(beside) = pick(level.beside, place / 9) {
+            parts.push(beside)?;
         }
         self.add(Form::And, parts.as_slice())
     }
@@ -151,8 +141,7 @@ impl Plant {
     /// Adds the forks of a level: their numbers.
     fn add_level(&mut self, level: Level, heap: Global) -> Result<Vec<u16>, AllocError> {
         let mut forks = Vec::new(heap);
-        for i in 0..level.width {
-            let place = i.wrapping_mul(2);
+        for place in (0..level.width.wrapping_mul(2)).step_by(2) {
             let on = self.add_branch(level, true, place, heap)?;
             let off = self.add_branch(level, false, place.wrapping_add(1), heap)?;
             let variable = level.decided;
@@ -170,9 +159,9 @@ impl Plant {
     ) -> Result<Vec<u16>, AllocError> {
         let mut below = Vec::new(heap);
         below.extend_from_slice(ends)?;
-        for variable in decided {
+        for &decided in decided {
             let level = Level {
-                decided: *variable,
+                decided,
                 tied: None,
                 below: below.as_slice(),
                 beside: &[],
@@ -188,18 +177,16 @@ impl Plant {
         let mut below = Vec::new(heap);
         below.extend_from_slice(first)?;
         let mut beside = second;
-        let mut decided = 33u16;
-        for width in UPPER_WIDTHS {
+        for (&width, decided) in UPPER_WIDTHS.iter().zip((33..64u16).step_by(2)) {
             let level = Level {
                 decided,
                 tied: Some(decided.wrapping_add(1)),
                 below: below.as_slice(),
                 beside,
-                width: *width,
+                width,
             };
             below = self.add_level(level, heap)?;
             beside = &[];
-            decided = decided.wrapping_add(2);
         }
         Ok(())
     }

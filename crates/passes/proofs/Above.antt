@@ -14,8 +14,9 @@ use Rattle.passes.specs.declared.holds.Entry.TheVariants.{Free, On, Off}
 use Rattle.passes.specs.Holding.{Entries, entry, is_free, denies, Keeps}
 use Rattle.passes.specs.Passes.{times, value_at, count, counts}
 use Rattle.passes.specs.Bounding.{Covers}
-use Rattle.passes.proofs.Made.{Way, made, ranked, made_related, upward_made, joined, count_way, plain_way, side_way, count_made}
-use Rattle.passes.proofs.Parts.{FreeIn, worth, beneath, side_here, bound_last, free_mentioned, side_is, value_above}
+use Rattle.passes.specs.Ways.{Way, made, joined, count_way, plain_way, side_way}
+use Rattle.passes.proofs.Made.{ranked, made_related, upward_made, count_made}
+use Rattle.passes.proofs.PairParts.{FreeIn, worth, beneath, side_here, bound_last, free_mentioned, side_is, value_above}
 use Rattle.passes.proofs.Figures.{counts_figure}
 
 -- a product with a zero factor

@@ -16,8 +16,9 @@ use Rattle.passes.specs.declared.holds.Entry.TheVariants.{Free, On, Off}
 use Rattle.passes.specs.Holding.{Entries, entry, is_free, denies, held_on, selected, free, Complete}
 use Rattle.passes.specs.Passes.{value_at, count, plain, plains}
 use Rattle.passes.specs.Bounding.{Tightens, Meets, PlainWhereHeld}
-use Rattle.passes.proofs.Made.{Way, made, ranked, made_related, made_same, upward_made, joined, count_way, plain_way, side_way, plain_made}
-use Rattle.passes.proofs.Parts.{part, worth, beneath, bound_last, free_mentioned, value_plain, value_below}
+use Rattle.passes.specs.Ways.{Way, made, joined, count_way, plain_way, side_way}
+use Rattle.passes.proofs.Made.{ranked, made_related, made_same, upward_made, plain_made}
+use Rattle.passes.proofs.PairParts.{part, worth, beneath, bound_last, free_mentioned, value_plain, value_below}
 use Rattle.passes.proofs.Figures.{counts_figure}
 use Rattle.passes.proofs.Above.{counted, count_at}
 

@@ -15,7 +15,8 @@ use Rattle.table.proofs.Truths.{holds_at, decisions_exclude}
 use Rattle.table.proofs.Upward.{by_children, root_last}
 use Rattle.passes.specs.Bounding.{CountsFigure}
 use Rattle.passes.specs.Passes.{times, value_at, count, counts}
-use Rattle.passes.proofs.Made.{made, equal, made_related, made_same, upward_made, indicator, sums, count_way, count_made}
+use Rattle.passes.specs.Ways.{made, indicator, sums, count_way}
+use Rattle.passes.proofs.Made.{equal, made_related, made_same, upward_made, count_made}
 use Rattle.passes.proofs.Splits.{Solves, Split, split_nodes}
 
 some_none : {A : Type 0} (p : A → Bool) (xs : List A) → AllByRecursion (λ x. p x ≡ false) xs → some p xs ≡ false

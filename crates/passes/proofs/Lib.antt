@@ -1,8 +1,6 @@
-pub mod Marking
 pub mod Products
 pub mod Reading
 pub mod Passing
-pub mod Striding
 pub mod Rowing
 pub mod Options
 pub mod Lowest
@@ -12,6 +10,6 @@ pub mod Made
 pub mod Splits
 pub mod Figures
 pub mod Filters
-pub mod Parts
+pub mod PairParts
 pub mod Above
 pub mod Below

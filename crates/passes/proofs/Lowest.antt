@@ -1,10 +1,9 @@
 -- The least of some figures, one option after the other. Assumes nothing.
-use Rattle.std.proofs.Common.{◌≡◌, ℕ, suc, ◌+◌, ◌*◌, ◌<◌, Bool, true, false, cond, ◌&&◌, List, [], ◌∷◌, map, length, get_or, drop, Some, None, Option, sym, refl, ap, ◌∙◌, ap₂, arith}
-use Rattle.std.proofs.lemmas.List.{at_drop_more, get_or_read}
+use Rattle.std.proofs.Common.{◌≡◌, ℕ, suc, ◌+◌, ◌*◌, ◌<◌, Bool, true, false, cond, ◌&&◌, List, [], ◌∷◌, map, length, get_or, Some, None, Option, refl, ap, ◌∙◌, arith}
 use Rattle.kinds.specs.Semiring.{Semiring, greater}
 use Rattle.passes.specs.Holding.{filter}
 use Rattle.passes.specs.Passes.{least}
-use Rattle.passes.specs.Rows.{lower, lowered, lowest}
+use Rattle.passes.specs.Rows.{lower, lowest}
 
 pub filter_both : (q r : ℕ → Bool) (vs : List ℕ) → filter q (filter r vs) ≡ filter (λ v. r v && q v) vs
 filter_both q r [] = refl
@@ -15,16 +14,6 @@ filter_both q r (v ∷ vs) = by (filter_both q r vs) (r v)
     by rest false = rest
 
 module _ {F : Type 0} (R : Semiring F) (p : ℕ → Bool) (row : List F) where
-  pub lowest_more : (best next whole : Option F) (j : ℕ) (vs : List ℕ) (taken : Bool) (on off : F) → j < length vs → length row ≡ 2 * length vs
-      → taken ≡ p (get_or vs j 0) → on ≡ get_or row (2 * j) on → off ≡ get_or row (2 * j + 1) off → next ≡ lowered R best taken on off
-      → lowest R p row best j (drop j vs) ≡ whole → lowest R p row next (j + 1) (drop (j + 1) vs) ≡ whole
-  lowest_more best next whole j vs taken on off h l te one two ne inv =
-      let a : on ≡ get_or row (2 * j) R.zero = get_or_read row (2 * j) on (omega arith) one R.zero in
-      let b : off ≡ get_or row (2 * j + 1) R.zero = get_or_read row (2 * j + 1) off (omega arith) two R.zero in
-      ap (λ o. lowest R p row o (j + 1) (drop (j + 1) vs))
-      (ne ∙ ap (λ t. lowered R best t on off) te ∙ ap₂ (λ x y. lowered R best (p (get_or vs j 0)) x y) a b)
-      ∙ sym (at_drop_more (lowest R p row best j) vs j 0 h) ∙ inv
-
   -- the least so far and some more figures
   abbrev pub least_with : Option F → List F → Option F
   least_with None [] = None

@@ -1,29 +1,14 @@
--- What the passes make of a node, in one form: a literal's own value, the product of an and's children, two branches
--- joined. Assumes nothing.
-use Rattle.std.proofs.Common.{◌≡◌, ℕ, Bool, cond, List, [], ◌∷◌, map, get_or, sym, refl, ◌∙◌, ap₂, inl, inr}
-use Rattle.kinds.specs.Semiring.{Semiring, Laws, greater}
+-- What is kept from the children of a node to the node, and the steps of the passes as ways. Assumes nothing.
+use Rattle.std.proofs.Common.{◌≡◌, ℕ, Bool, List, [], ◌∷◌, map, get_or, sym, refl, ◌∙◌, ap₂, inl, inr}
+use Rattle.kinds.specs.Semiring.{Semiring, Laws}
 use Rattle.kinds.proofs.Ranks.{Upto, upto_refl, product_monotone}
-use Rattle.table.specs.Circuit.{Shape, lit, all, fork, top, bottom, World, Vars, upward, same}
-use Rattle.table.specs.Count.{weight}
+use Rattle.table.specs.Circuit.{Shape, lit, all, fork, top, bottom, World, Vars, upward}
 use Rattle.table.specs.Facts.{Among, node, Ordered}
-use Rattle.table.specs.Sound.{Roles, is_option, children}
+use Rattle.table.specs.Sound.{Roles, children}
 use Rattle.table.proofs.Upward.{upward_at}
-use Rattle.passes.specs.Holding.{Entries, entry, denies}
+use Rattle.passes.specs.Holding.{Entries}
 use Rattle.passes.specs.Passes.{Part, times, value_at, count, plain, under, side_of}
-
--- a literal's value, how a fork joins its branches, and the value of true
-pub record Way (F : Type 0) : Type 0 where
-  pub leaf : ℕ → Bool → F
-  pub join : ℕ → F → F → F
-  pub edge : F
-
--- a node's value, from those of its children
-abbrev pub made : {F : Type 0} → Semiring F → Way F → (ℕ → F) → Shape → F
-made R way f (lit v on) = way.leaf v on
-made R way f (all cs) = times R (map f cs)
-made R way f (fork v a b) = way.join v (f a) (f b)
-made R way f top = way.edge
-made R way f bottom = R.zero
+use Rattle.passes.specs.Ways.{Way, made, count_way, plain_way, side_way}
 
 -- a relation that products keep
 pub record Kept {F : Type 0} (R : Semiring F) (Rel : F → F → Type 0) : Type 0 where
@@ -67,41 +52,15 @@ module _ {F : Type 0} (R : Semiring F) where
       }) ss ordered i
       ∙ is (upward step ss) (node ss i)
 
-  -- one where the test holds, else zero
-  abbrev pub indicator : Bool → F
-  indicator b = cond b R.one R.zero
-
-  -- the way that adds branches
-  abbrev pub sums : (ℕ → Bool → F) → Way F
-  sums leaf = record { leaf = leaf; join = λ _. R.sum; edge = R.one }
-
-  -- an option's branches are joined by the greater, a chance's by the sum
-  abbrev pub joined : Roles → ℕ → F → F → F
-  joined rs v a b = cond (is_option rs v) (greater R a b) (R.sum a b)
-
-  -- the way of a node's side b of an option
-  abbrev pub side_way : Roles → Bool → Way F
-  side_way rs b = record { leaf = λ _ on. indicator (same b on); join = joined rs; edge = R.zero }
-
   module _ (rs : Roles) (sheet : List F) where
-    abbrev pub count_way : World → Way F
-    count_way w = sums (λ v on. cond (is_option rs v) (indicator (same (w v) on)) (weight R sheet v on))
-
-    abbrev pub plain_way : Entries → Way F
-    plain_way h = record {
-      leaf = λ v on. cond (is_option rs v) (cond (denies (entry h v) on) R.zero R.one) (weight R sheet v on);
-      join = joined rs;
-      edge = R.one;
-    }
-
-    pub count_made : (w : World) (done : List F) (s : Shape) → count R rs sheet w done s ≡ made R (count_way w) (value_at R done) s
+    pub count_made : (w : World) (done : List F) (s : Shape) → count R rs sheet w done s ≡ made R (count_way R rs sheet w) (value_at R done) s
     count_made w done (lit v on) = refl
     count_made w done (all cs) = refl
     count_made w done (fork v a b) = refl
     count_made w done top = refl
     count_made w done bottom = refl
 
-    pub plain_made : (h : Entries) (done : List F) (s : Shape) → plain R rs sheet h done s ≡ made R (plain_way h) (value_at R done) s
+    pub plain_made : (h : Entries) (done : List F) (s : Shape) → plain R rs sheet h done s ≡ made R (plain_way R rs sheet h) (value_at R done) s
     plain_made h done (lit v on) = refl
     plain_made h done (all cs) = refl
     plain_made h done (fork v a b) = refl
@@ -109,7 +68,7 @@ module _ {F : Type 0} (R : Semiring F) where
     plain_made h done bottom = refl
 
     pub side_made : (ms : List Vars) (h : Entries) (done : List (Part F)) (b : Bool) (v : ℕ) (s : Shape)
-        → side_of R rs sheet ms h done s b v ≡ made R (side_way rs b) (under R rs sheet ms h done b v) s
+        → side_of R rs sheet ms h done s b v ≡ made R (side_way R rs b) (under R rs sheet ms h done b v) s
     side_made ms h done b v (lit x on) = refl
     side_made ms h done b v (all cs) = refl
     side_made ms h done b v (fork x p q) = refl

@@ -4,18 +4,20 @@ use mathlib.Core.Path.{fun_ext}
 use Rattle.std.proofs.lemmas.List.{take_at, drop-drop, drop_at, length-take-le, take_all}
 use Rattle.std.proofs.lemmas.Bool.{cond-true}
 use Rattle.kinds.specs.Semiring.{Semiring, greater, lesser}
-use Rattle.table.specs.Circuit.{Shape, lit, all, fork, top, bottom, Vars, mention, mentions}
+use Rattle.table.specs.Circuit.{Shape, Vars, mention, mentions}
 use Rattle.table.specs.Facts.{node, about, Ordered}
 use Rattle.table.specs.Sound.{Roles, none, options}
 use Rattle.table.proofs.Truths.{about_at}
 use Rattle.table.proofs.Upward.{upward_more, upward_length}
 use Rattle.passes.specs.Holding.{Entries, entry, is_free, filter}
-use Rattle.passes.specs.Passes.{Part, no_part, times, value_at, plain, under, side_of, free_of, either_side, value_of, pair, pairs, sides, work}
-use Rattle.passes.specs.Steps.{value_in, fork_of, plain_in}
-use Rattle.passes.specs.Rows.{side_place, under_in, side_in, open_at, side_or_zero, sides_by, or_else, over, row_in, value_by, part_in}
+use Rattle.passes.specs.Passes.{Part, no_part, value_at, plain, under, side_of, free_of, either_side, value_of, pair, pairs, sides, work}
+use Rattle.passes.specs.Steps.{value_in}
+use Rattle.passes.specs.Rows.{side_place, under_in, open_at, side_or_zero, sides_by, or_else, row_in, value_by, part_in}
+use Rattle.passes.specs.Ways.{made, plain_way, side_way}
+use Rattle.passes.proofs.Made.{plain_made, side_made}
 use Rattle.passes.proofs.Lowest.{filter_both, least_with, lowest_is}
 use Rattle.passes.proofs.Options.{option_there}
-use Rattle.passes.proofs.Rowing.{laid, laid_length, sides_there, work_length, value_there, side_there, work_push}
+use Rattle.passes.proofs.Rowing.{laid, sides_there, work_length, value_there, side_there, work_push}
 
 module _ {F : Type 0} (R : Semiring F) (rs : Roles) (sheet : List F) (h : Entries) (ss : List Shape) (stride : ℕ) (wide : stride ≡ 2 * length (options rs) + 1) (ps : List (Part F)) where
   abbrev W : List F
@@ -29,12 +31,8 @@ module _ {F : Type 0} (R : Semiring F) (rs : Roles) (sheet : List F) (h : Entrie
   values_are : value_in R stride W ≡ value_at R (map (λ p. p.value) ps)
   values_are = fun_ext (λ c. value_there R rs sheet stride wide ps c ∙ sym (map_value ps c))
 
-  plain_is : (s : Shape) → plain_in R rs sheet h stride W s ≡ plain R rs sheet h (map (λ p. p.value) ps) s
-  plain_is (lit v on) = refl
-  plain_is (all cs) = ap (λ f. times R (map f cs)) values_are
-  plain_is (fork v a b) = ap (λ (f : ℕ → F). fork_of R rs v (f a) (f b)) values_are
-  plain_is top = refl
-  plain_is bottom = refl
+  plain_is : (s : Shape) → made R (plain_way R rs sheet h) (value_in R stride W) s ≡ plain R rs sheet h (map (λ p. p.value) ps) s
+  plain_is s = ap (λ f. made R (plain_way R rs sheet h) f s) values_are ∙ sym (plain_made R rs sheet h (map (λ p. p.value) ps) s)
 
   module _ (j : ℕ) (short : j < length (options rs)) (b : Bool) where
     abbrev v : ℕ
@@ -43,12 +41,8 @@ module _ {F : Type 0} (R : Semiring F) (rs : Roles) (sheet : List F) (h : Entrie
     under_is : under_in R (mentions ss) stride W v (side_place j b) ≡ under R rs sheet (mentions ss) h ps b v
     under_is = fun_ext (λ c. ap₂ (λ x y. cond (get_or (mentions ss) c none v) (lesser R x y) x) (value_there R rs sheet stride wide ps c) (side_there R rs sheet stride wide ps c j b short))
 
-    side_is : (s : Shape) → side_in R (mentions ss) stride W rs s b v (side_place j b) ≡ side_of R rs sheet (mentions ss) h ps s b v
-    side_is (lit x on) = refl
-    side_is (all cs) = ap (λ f. times R (map f cs)) under_is
-    side_is (fork x p q) = ap (λ (f : ℕ → F). fork_of R rs x (f p) (f q)) under_is
-    side_is top = refl
-    side_is bottom = refl
+    side_is : (s : Shape) → made R (side_way R rs b) (under_in R (mentions ss) stride W v (side_place j b)) s ≡ side_of R rs sheet (mentions ss) h ps s b v
+    side_is s = ap (λ f. made R (side_way R rs b) f s) under_is ∙ sym (side_made R rs sheet (mentions ss) h ps b v s)
 
   sides_same : (s : Bool → ℕ → ℕ → F) (p : Part F) (a : ℕ) (vs : List ℕ)
       → ((j : ℕ) (b : Bool) → j < length vs → s b (get_or vs j 0) (side_place (a + j) b) ≡ p.side b (get_or vs j 0)) → sides_by s a vs ≡ sides R rs sheet p vs
@@ -99,13 +93,13 @@ module _ {F : Type 0} (R : Semiring F) (rs : Roles) (sheet : List F) (h : Entrie
         ap (λ (m : Vars). filter (λ v. is_free (entry h v) && m v) (options rs)) (about_at ss ordered i)
         ∙ sym (filter_both (mention (mentions ss) (node ss i)) (λ v. is_free (entry h v)) (options rs))
 
-    value_by_list : (fs : List ℕ) → or_else (least_with R (open_at h (about ss i)) row None (map (either_side R rs sheet (mentions ss) h ps (node ss i)) fs)) (plain_in R rs sheet h stride W (node ss i)) ≡ value_of R rs sheet (mentions ss) h ps (node ss i) fs
+    value_by_list : (fs : List ℕ) → or_else (least_with R (open_at h (about ss i)) row None (map (either_side R rs sheet (mentions ss) h ps (node ss i)) fs)) (made R (plain_way R rs sheet h) (value_in R stride W) (node ss i)) ≡ value_of R rs sheet (mentions ss) h ps (node ss i) fs
     value_by_list [] = plain_is (node ss i)
     value_by_list (v ∷ vs) = refl
 
     value_is : value_by R rs sheet h ss stride W row i (options rs) ≡ part.value
     value_is =
-        ap (λ o. or_else o (plain_in R rs sheet h stride W (node ss i)))
+        ap (λ o. or_else o (made R (plain_way R rs sheet h) (value_in R stride W) (node ss i)))
         (lowest_is R (open_at h (about ss i)) row (either_side R rs sheet (mentions ss) h ps (node ss i)) None 0 (options rs) either_row)
         ∙ value_by_list (filter (open_at h (about ss i)) (options rs))
         ∙ ap (value_of R rs sheet (mentions ss) h ps (node ss i)) free_are
@@ -122,33 +116,29 @@ module _ {F : Type 0} (R : Semiring F) (rs : Roles) (sheet : List F) (h : Entrie
   -- what a loop over the n nodes keeps
   pub record Parted (n : ℕ) (now : List F) (i : ℕ) : Type 0 where
     pub parts : now ≡ so_far i
-    pub long : length now ≡ length start
     pub many : n ≡ length ss
 
   module _ (wide : stride ≡ 2 * length (options rs) + 1) (ordered : Ordered ss) where
-    front : (i : ℕ) → i ≤ length ss → length (work R rs sheet (take i (pairs R rs sheet ss h))) ≡ i * stride
-    front i l =
+    length_front : (i : ℕ) → i ≤ length ss → length (work R rs sheet (take i (pairs R rs sheet ss h))) ≡ i * stride
+    length_front i l =
         work_length R rs sheet stride wide (take i (pairs R rs sheet ss h))
         ∙ ap (λ n. n * stride) (length-take-le i (pairs R rs sheet ss h) (omega (arith, upward_length (pair R rs sheet (mentions ss) h) ss)))
 
-    pub parts_more : (i : ℕ) → i < length ss → (now : List F) → now ≡ so_far i → (vs : List ℕ) → vs ≡ options rs
-        → over now (i * stride) (part_in R rs sheet h ss stride (take (i * stride) now) i vs) ≡ so_far (i + 1)
-    parts_more i l now e vs ve =
+    -- one more part, written between the parts before it and the rest
+    pub parts_more : (i : ℕ) → i < length ss → (now front part back : List F) → now ≡ so_far i → front ≡ take (i * stride) now → back ≡ drop (i * stride) now
+        → part ≡ part_in R rs sheet h ss stride front i (options rs) → front ++ (part ++ drop stride back) ≡ so_far (i + 1)
+    parts_more i l now front part back e before behind is =
         let ps : List (Part F) = take i (pairs R rs sheet ss h) in
         let A : List F = work R rs sheet ps in
         let p : Part F = pair R rs sheet (mentions ss) h ps (node ss i) in
         let k : ℕ = i * stride in
-        let long : length A ≡ k = front i (omega arith) in
-        let before : take k (so_far i) ≡ A = take_at A (drop k start) k long in
-        let here : part_in R rs sheet h ss stride (take k (so_far i)) i (options rs) ≡ laid R rs sheet p =
-        ap (λ d. part_in R rs sheet h ss stride d i (options rs)) before ∙ part_is R rs sheet h ss stride wide ps ordered i in
-        let next : k + length (laid R rs sheet p) ≡ (i + 1) * stride = omega (arith, laid_length R rs sheet stride wide p, add-mul i 1 stride, one-mul stride) in
-        let behind : drop (k + length (laid R rs sheet p)) (so_far i) ≡ drop ((i + 1) * stride) start =
-        sym (drop-drop (length (laid R rs sheet p)) k (so_far i)) ∙ ap (drop (length (laid R rs sheet p))) (drop_at A (drop k start) k long)
-        ∙ drop-drop (length (laid R rs sheet p)) k start ∙ ap (λ n. drop n start) next in
-        ap₂ (λ w us. over w k (part_in R rs sheet h ss stride (take k w) i us)) e ve
-        ∙ ap (over (so_far i) k) here
-        ∙ ap₂ (λ f b. f ++ (laid R rs sheet p ++ b)) before behind
+        let long : length A ≡ k = length_front i (omega arith) in
+        let first : front ≡ A = before ∙ ap (take k) e ∙ take_at A (drop k start) k long in
+        let here : part ≡ laid R rs sheet p = is ∙ ap (λ d. part_in R rs sheet h ss stride d i (options rs)) first ∙ part_is R rs sheet h ss stride wide ps ordered i in
+        let next : k + stride ≡ (i + 1) * stride = omega (arith, add-mul i 1 stride, one-mul stride) in
+        let rest : drop stride back ≡ drop ((i + 1) * stride) start =
+        ap (drop stride) (behind ∙ ap (drop k) e ∙ drop_at A (drop k start) k long) ∙ drop-drop stride k start ∙ ap (λ n. drop n start) next in
+        (λ j. first j ++ (here j ++ rest j))
         ∙ sym (append_assoc A (laid R rs sheet p) (drop ((i + 1) * stride) start))
         ∙ ap (λ f. f ++ drop ((i + 1) * stride) start) (sym (work_push R rs sheet ps p) ∙ ap (work R rs sheet) (sym (upward_more (pair R rs sheet (mentions ss) h) ss i l)))
 

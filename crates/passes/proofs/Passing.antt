@@ -1,6 +1,6 @@
 -- A pass that writes one place for each node. Assumes nothing.
-use Rattle.std.proofs.Common.{◌≡◌, ℕ, ◌+◌, ◌-◌, ◌<◌, ◌≤◌, List, [], ◌∷◌, ◌++◌, length, get_or, take, drop, set, sym, ap, ◌∙◌, ap₂, append_assoc, arith}
-use Rattle.std.proofs.lemmas.List.{length-take-le, take_all, take_at, drop_more, set_at, length-set}
+use Rattle.std.proofs.Common.{◌≡◌, ℕ, ◌+◌, ◌<◌, ◌≤◌, List, [], ◌∷◌, ◌++◌, length, get_or, take, drop, set, sym, ap, ◌∙◌, ap₂, append_assoc, arith}
+use Rattle.std.proofs.lemmas.List.{length-take-le, take_all, take_at, drop_more, set_at}
 use Rattle.table.specs.Circuit.{Shape, upward}
 use Rattle.table.specs.Facts.{node}
 use Rattle.table.proofs.Upward.{upward_more, upward_length}
@@ -13,14 +13,10 @@ module _ {F : Type 0} (f : List F → Shape → F) (ss : List Shape) (start : Li
   -- what a loop over the n nodes keeps
   pub record Passed (n : ℕ) (work : List F) (i : ℕ) : Type 0 where
     pub values : work ≡ so_far i
-    pub long : length work ≡ length start
     pub many : n ≡ length ss
 
   front : (i : ℕ) → i ≤ length ss → length (take i (upward f ss)) ≡ i
   front i h = length-take-le i (upward f ss) (omega (arith, upward_length f ss))
-
-  done_front : (i : ℕ) → i ≤ length ss → take (i - 0) (so_far i) ≡ take i (upward f ss)
-  done_front i h = let e : i - 0 ≡ i = omega arith in ap (λ n. take n (so_far i)) e ∙ take_at (take i (upward f ss)) (drop i start) i (front i h)
 
   pass_more : (i : ℕ) (v : F) → i < length ss → length ss ≤ length start → v ≡ f (take i (upward f ss)) (node ss i) → set (so_far i) i v ≡ so_far (i + 1)
   pass_more i v h room e =
@@ -29,24 +25,17 @@ module _ {F : Type 0} (f : List F → Shape → F) (ss : List Shape) (start : Li
       ∙ sym (append_assoc (take i (upward f ss)) (v ∷ []) (drop (i + 1) start))
       ∙ ap (λ xs. xs ++ drop (i + 1) start) (ap (λ x. take i (upward f ss) ++ (x ∷ [])) e ∙ sym (upward_more f ss i h))
 
-  pass_all : (i : ℕ) → i ≡ length ss → so_far i ≡ upward f ss ++ drop (length ss) start
-  pass_all i e =
-      ap₂ (λ xs n. xs ++ drop n start) (take_all i (upward f ss) (omega (arith, upward_length f ss))) e
+  module _ (n i : ℕ) (work : List F) (p : Passed n work i) where
+    passed_done : i < n → take i work ≡ take i (upward f ss)
+    passed_done h = ap (take i) p.values ∙ take_at (take i (upward f ss)) (drop i start) i (front i (let e = p.many in omega arith))
 
-  passed_done : (n i : ℕ) (work : List F) → Passed n work i → i < n → take (i - 0) work ≡ take i (upward f ss)
-  passed_done n i work p h = ap (take (i - 0)) p.values ∙ done_front i (let e = p.many in omega arith)
+    pub passed_more : (v : F) → i < n → length ss ≤ length start → v ≡ f (take i work) (node ss i) → Passed n (set work i v) (i + 1)
+    passed_more v h room e = record {
+      values = ap (λ w. set w i v) p.values ∙ pass_more i v (let q = p.many in omega arith) room (e ∙ ap (λ d. f d (node ss i)) (passed_done h));
+      many = p.many;
+    }
 
-  pub passed_length : (n i : ℕ) (work : List F) → Passed n work i → i < n → length ss ≤ length start → length (take (i - 0) work) ≡ i
-  passed_length n i work p h room = let e : i - 0 ≡ i = omega arith in rw e (length-take-le i work (let e = p.many in let l = p.long in omega arith))
-
-  pub passed_more : (n i : ℕ) (work : List F) (v : F) → Passed n work i → i < n → length ss ≤ length start → v ≡ f (take (i - 0) work) (node ss i) → Passed n (set work i v) (i + 1)
-  passed_more n i work v p h room e =
-      let inside : i < length ss = let q = p.many in omega arith in
-      record {
-        values = ap (λ w. set w i v) p.values ∙ pass_more i v inside room (e ∙ ap (λ d. f d (node ss i)) (passed_done n i work p h));
-        long = length-set work i v ∙ p.long;
-        many = p.many;
-      }
-
-  pub passed_all : (n i : ℕ) (work : List F) → Passed n work i → i ≤ n → n ≤ i → work ≡ upward f ss ++ drop (length ss) start
-  passed_all n i work p l h = p.values ∙ pass_all i (let q = p.many in omega arith)
+    pub passed_all : i ≤ n → n ≤ i → work ≡ upward f ss ++ drop (length ss) start
+    passed_all l h =
+        let e : i ≡ length ss = let q = p.many in omega arith in
+        p.values ∙ ap₂ (λ xs n. xs ++ drop n start) (take_all i (upward f ss) (omega (arith, upward_length f ss))) e

@@ -1,10 +1,10 @@
 -- Parts as they lie in the work table, and a row that is written two places at a time. Assumes nothing.
-use Rattle.std.proofs.Common.{◌≡◌, ℕ, zero, suc, ◌+◌, ◌-◌, ◌*◌, ◌<◌, ◌≤◌, Bool, true, false, cond, List, [], ◌∷◌, ◌++◌, length, get_or, take, drop, set, sym, refl, ap, ◌∙◌, ap₂, append_assoc, not-suc-le-zero, suc-mul, zero-mul, arith}
-use Rattle.std.proofs.lemmas.List.{length-append, length-take-le, set_at, drop_more, take-append-le, take-take, take_at, drop_at, take-append-drop, take_more, get_or-append-add, get_or_append_left, append-nil}
+use Rattle.std.proofs.Common.{◌≡◌, ℕ, zero, suc, ◌+◌, ◌*◌, ◌<◌, Bool, true, false, cond, List, [], ◌∷◌, ◌++◌, length, get_or, take, drop, set, sym, refl, ap, ◌∙◌, ap₂, append_assoc, not-suc-le-zero, suc-mul, zero-mul, arith}
+use Rattle.std.proofs.lemmas.List.{length-append, length-set, take_more_set, length-take-le, take_more, get_or-append-add, get_or_append_left, append-nil}
 use Rattle.kinds.specs.Semiring.{Semiring}
 use Rattle.table.specs.Sound.{Roles, options}
 use Rattle.passes.specs.Passes.{Part, no_part, sides, work}
-use Rattle.passes.specs.Rows.{side_place, sides_by, over}
+use Rattle.passes.specs.Rows.{side_place, sides_by}
 
 module _ {F : Type 0} (s : Bool → ℕ → ℕ → F) where
   pub sides_by_length : (j : ℕ) (vs : List ℕ) → length (sides_by s j vs) ≡ 2 * length vs
@@ -17,76 +17,26 @@ module _ {F : Type 0} (s : Bool → ℕ → ℕ → F) where
   sides_by_push j k (u ∷ vs) v e =
       ap (λ r. s true u (side_place j true) ∷ s false u (side_place j false) ∷ r) (sides_by_push (j + 1) k vs v (omega arith))
 
-module _ {F : Type 0} (xs : List F) (k : ℕ) where
-  pub over_none : k ≤ length xs → over xs k [] ≡ xs
-  over_none l = ap (λ n. take k xs ++ drop n xs) (let e : k + 0 ≡ k = omega arith in e) ∙ take-append-drop k xs
-
-  pub over_front : (ys : List F) (n : ℕ) → n ≤ k → k ≤ length xs → take n (over xs k ys) ≡ take n xs
-  over_front ys n l m =
-      let e : length (take k xs) ≡ k = length-take-le k xs m in
-      take-append-le n (take k xs) (ys ++ drop (k + length ys) xs) (omega arith) ∙ take-take n k xs l
-
-  over_more : (ys : List F) (m : ℕ) (a b : F) → m ≡ k + length ys → m + 1 < length xs → set (set (over xs k ys) m a) (m + 1) b ≡ over xs k (ys ++ (a ∷ b ∷ []))
-  over_more ys m a b e l =
-      let front : List F = take k xs ++ ys in
-      let rest : List F = drop (m + 1 + 1) xs in
-      let x : F = get_or xs m a in
-      let y : F = get_or xs (m + 1) a in
-      let flen : length front ≡ m = length-append (take k xs) ys ∙ ap (λ n. n + length ys) (length-take-le k xs (omega arith)) ∙ sym e in
-      let open_up : over xs k ys ≡ front ++ (x ∷ y ∷ rest) =
-      ap (λ n. take k xs ++ (ys ++ drop n xs)) (sym e)
-      ∙ ap (λ r. take k xs ++ (ys ++ r)) (drop_more xs m a (omega arith) ∙ ap (λ r. x ∷ r) (drop_more xs (m + 1) a l))
-      ∙ sym (append_assoc (take k xs) ys (x ∷ y ∷ rest)) in
-      let one : set (over xs k ys) m a ≡ front ++ (a ∷ y ∷ rest) = ap (λ r. set r m a) open_up ∙ set_at front x (y ∷ rest) a m flen in
-      let flen' : length (front ++ (a ∷ [])) ≡ m + 1 = length-append front (a ∷ []) ∙ ap (λ n. n + 1) flen in
-      let total : k + length (ys ++ (a ∷ b ∷ [])) ≡ m + 1 + 1 = let q = length-append ys (a ∷ b ∷ []) in omega arith in
-      ap (λ r. set r (m + 1) b) (one ∙ sym (append_assoc front (a ∷ []) (y ∷ rest)))
-      ∙ set_at (front ++ (a ∷ [])) y rest b (m + 1) flen'
-      ∙ append_assoc front (a ∷ []) (b ∷ rest)
-      ∙ append_assoc (take k xs) ys (a ∷ b ∷ rest)
-      ∙ ap (λ r. take k xs ++ r) (sym (append_assoc ys (a ∷ b ∷ []) rest))
-      ∙ ap (λ n. take k xs ++ ((ys ++ (a ∷ b ∷ [])) ++ drop n xs)) (sym total)
-
-  -- a row, and what a read of it and of what is before it gives
-  pub over_row : (ys : List F) (e : ℕ) → k ≤ length xs → e ≡ k + length ys → take (e - k) (drop k (over xs k ys)) ≡ ys
-  over_row ys e l m =
-      let q : e - k ≡ length ys = omega arith in
-      ap₂ take q (drop_at (take k xs) (ys ++ drop (k + length ys) xs) k (length-take-le k xs l)) ∙ take_at ys (drop (k + length ys) xs) (length ys) refl
-
--- the place before a row
-pub over_cons : {F : Type 0} (xs : List F) (k : ℕ) (v : F) (ys : List F) → k < length xs → set (over xs (k + 1) ys) k v ≡ over xs k (v ∷ ys)
-over_cons xs k v ys l =
-    let rest = ys ++ drop (k + 1 + length ys) xs in
-    let n : k + 1 + length ys ≡ k + suc (length ys) = omega arith in
-    ap (λ f. set (f ++ rest) k v) (take_more xs k v l)
-    ∙ ap (λ f. set f k v) (append_assoc (take k xs) (get_or xs k v ∷ []) rest)
-    ∙ set_at (take k xs) (get_or xs k v) rest v k (length-take-le k xs (omega arith))
-    ∙ ap (λ m. take k xs ++ (v ∷ (ys ++ drop m xs))) n
-
-pub front_length : {F : Type 0} (xs : List F) (k : ℕ) → k ≤ length xs → length (take (k - 0) xs) ≡ k
-front_length xs k l = let z : k - 0 ≡ k = omega arith in ap (λ n. length (take n xs)) z ∙ length-take-le k xs l
-
--- one more option's two places of a row
-module _ {F : Type 0} (give : List F → Bool → ℕ → ℕ → F) (xs : List F) (base : ℕ) (vs : List ℕ) (j : ℕ) (room : base + 1 + 2 * length vs ≤ length xs) (l : j < length vs) where
-  abbrev row : ℕ → List F
-  row k = sides_by (give (take base xs)) 0 (take k vs)
-
-  pub row_front : (now : List F) → now ≡ over xs (base + 1) (row j) → take (base - 0) now ≡ take base xs
-  row_front now e =
-      let z : base - 0 ≡ base = omega arith in ap₂ take z e ∙ over_front xs (base + 1) (row j) base (omega arith) (omega arith)
-
-  pub row_more : (now : List F) (on off : F) (m n : ℕ) → now ≡ over xs (base + 1) (row j) → m ≡ base + 1 + 2 * j → n ≡ m + 1
-      → on ≡ give (take (base - 0) now) true (get_or vs j 0) (side_place j true) → off ≡ give (take (base - 0) now) false (get_or vs j 0) (side_place j false)
-      → set (set now m on) n off ≡ over xs (base + 1) (row (j + 1))
-  row_more now on off m n e me ne one two =
-      let done = row_front now e in
-      let tlen : length (take j vs) ≡ j = length-take-le j vs (omega arith) in
-      let ylen : length (row j) ≡ 2 * length (take j vs) = sides_by_length (give (take base xs)) 0 (take j vs) in
+-- one more option's two places of a row, which stands behind the first place of a part
+module _ {F : Type 0} (s : Bool → ℕ → ℕ → F) (vs : List ℕ) (j : ℕ) (l : j < length vs) where
+  pub row_more : (part : List F) (a b : F) → length part ≡ 2 * length vs + 1 → take (2 * j) (drop 1 part) ≡ sides_by s 0 (take j vs)
+      → a ≡ s true (get_or vs j 0) (side_place j true) → b ≡ s false (get_or vs j 0) (side_place j false)
+      → take (2 * (j + 1)) (drop 1 (set (set part (2 * j + 1) a) (2 * j + 2) b)) ≡ sides_by s 0 (take (j + 1) vs)
+  row_more [] a b long done one two = absurd (let z : 0 ≡ 2 * length vs + 1 = long in omega arith)
+  row_more (x ∷ xs) a b long done one two =
       let v : ℕ = get_or vs j 0 in
-      ap₂ (λ w k. set (set w m on) k off) e ne
-      ∙ over_more xs (base + 1) (row j) m on off (omega arith) (omega arith)
-      ∙ ap₂ (λ a b. over xs (base + 1) (row j ++ (a ∷ b ∷ []))) (one ∙ ap (λ d. give d true v (side_place j true)) done) (two ∙ ap (λ d. give d false v (side_place j false)) done)
-      ∙ ap (over xs (base + 1)) (sym (sides_by_push (give (take base xs)) 0 j (take j vs) v (omega arith)) ∙ ap (sides_by (give (take base xs)) 0) (sym (take_more vs j 0 l)))
+      let m : 2 * j + 1 ≡ suc (2 * j) = omega arith in
+      let n : 2 * j + 2 ≡ suc (2 * j + 1) = omega arith in
+      let k : 2 * (j + 1) ≡ 2 * j + 1 + 1 = omega arith in
+      ap₂ (λ y z. take (2 * (j + 1)) (drop 1 (set (set (x ∷ xs) y a) z b))) m n
+      ∙ ap (λ y. take y (set (set xs (2 * j) a) (2 * j + 1) b)) k
+      ∙ take_more_set (set xs (2 * j) a) (2 * j + 1) b (let e = length-set xs (2 * j) a in omega arith)
+      ∙ ap (λ r. r ++ (b ∷ [])) (take_more_set xs (2 * j) a (omega arith))
+      ∙ append_assoc (take (2 * j) xs) (a ∷ []) (b ∷ [])
+      ∙ ap (λ r. r ++ (a ∷ b ∷ [])) done
+      ∙ ap₂ (λ y z. sides_by s 0 (take j vs) ++ (y ∷ z ∷ [])) one two
+      ∙ sym (sides_by_push s 0 j (take j vs) v (let q = length-take-le j vs (omega arith) in omega arith))
+      ∙ ap (sides_by s 0) (sym (take_more vs j 0 l))
 
 module _ {F : Type 0} (R : Semiring F) (rs : Roles) (sheet : List F) where
   sides_length : (p : Part F) (vs : List ℕ) → length (sides R rs sheet p vs) ≡ 2 * length vs

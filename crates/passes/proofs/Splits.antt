@@ -11,7 +11,7 @@ use Rattle.table.proofs.Listed.{all_at, some_at}
 use Rattle.table.proofs.Truths.{about_at}
 use Rattle.table.proofs.Upward.{by_children}
 use Rattle.passes.specs.Passes.{times}
-use Rattle.passes.proofs.Made.{made, sums}
+use Rattle.passes.specs.Ways.{made, sums}
 
 -- what holds at each place of a list holds of each element
 from_places : {A : Type 0} (P : A → Type 0) (xs : List A) (d : A) → ((i : ℕ) → i < length xs → P (get_or xs i d)) → AllByRecursion P xs

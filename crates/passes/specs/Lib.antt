@@ -3,4 +3,5 @@ pub mod Passes
 pub mod Bounding
 pub mod Marks
 pub mod Steps
+pub mod Ways
 pub mod Rows

@@ -6,21 +6,20 @@ ghost use Rattle.table.specs.Whole.{circuit, roles};
 ghost use Rattle.passes.specs.Holding.{selected};
 ghost use Rattle.passes.specs.Passes.{counts};
 
-use crate::counting::count_pass;
-use crate::holds::Holds;
+use crate::query::Query;
 use kinds::figure::Figure;
-use table::table::Table;
 
-/// Counts the selection held, with every free option off: the sum, over all scenarios that make
-/// the root true, of the product of their weights.
-pub fn count_figure<K: Figure>(table: &Table, sheet: &[K], holds: &Holds, work: &mut [K]) -> K
-    requires room { length (circuit table.now) ≤ length work.old }
-    requires sheet { 2 * length (roles table.now) ≤ length sheet.now }
-    ensures answer { result ≡ figure_of K.ring (circuit table.now) (chances (roles table.now)) sheet.now (selected holds.now.entries) }
-    ensures work { work.new ≡ counts K.ring (roles table.now) sheet.now (circuit table.now) (selected holds.now.entries) ++ drop (length (circuit table.now)) work.old }
-{
-    count_pass(table, sheet, holds, work);
-    last_of(work, table.nodes.len())
+impl<K: Figure> Query<'_, K> {
+    /// Counts the selection held, with every free option off: the sum, over all scenarios that make
+    /// the root true, of the product of their weights.
+    pub fn count_figure(&self, work: &mut [K]) -> K
+        requires room { length (circuit self.now.table.now) ≤ length work.old }
+        ensures answer { result ≡ figure_of K.ring (circuit self.now.table.now) (chances (roles self.now.table.now)) self.now.sheet.now (selected self.now.holds.now.entries) }
+        ensures work { work.new ≡ counts K.ring (roles self.now.table.now) self.now.sheet.now (circuit self.now.table.now) (selected self.now.holds.now.entries) ++ drop (length (circuit self.now.table.now)) work.old }
+    {
+        self.count_pass(work);
+        last_of(work, self.table.nodes.len())
+    }
 }
 
 /// The last of the first `count` figures.

@@ -5,31 +5,21 @@ ghost use Rattle.passes.specs.Marks.{entry_at, with_entry, held};
 
 use crate::holds::{Entry, Holds};
 
-/// The entry of a variable: the first is that of variable 1.
-fn entry_in(entries: &[Entry], variable: u16) -> Entry
-    ensures { result ≡ entry_at entries.now variable }
-{
-    if variable == 0 {
-        return Entry::Free;
-    }
-    let place = variable as usize - 1;
-    if place < entries.len() {
-        entries[place]
-    } else {
-        Entry::Free
+/// The entry of an option that is held on (or off).
+impl From<bool> for Entry {
+    fn from(on: bool) -> Entry
+        ensures { result ≡ held on }
+    {
+        if on { Entry::On } else { Entry::Off }
     }
 }
 
-/// Changes the entry of a variable.
-fn put_in(entries: &mut [Entry], variable: u16, entry: Entry)
-    ensures { entries.new ≡ with_entry entries.old variable entry }
-{
-    if variable == 0 {
-        return;
-    }
-    let place = variable as usize - 1;
-    if place < entries.len() {
-        entries[place] = entry;
+/// Nothing is held.
+impl Default for Holds {
+    fn default() -> Holds
+        ensures { result.entries ≡ replicate 64 Entry.Free }
+    {
+        Holds::new()
     }
 }
 
@@ -47,22 +37,37 @@ impl Holds {
     pub fn entry(&self, variable: u16) -> Entry
         ensures { result ≡ entry_at self.now.entries variable }
     {
-        entry_in(&self.entries, variable)
+        let place = (variable as usize).checked_sub(1);
+        place
+            .and_then(|place| self.entries.get(place))
+            .copied()
+            .unwrap_or_default()
+    }
+
+    /// Changes a variable's entry.
+    fn put(&mut self, variable: u16, entry: Entry)
+        ensures { self.new.entries ≡ with_entry self.old.entries variable entry }
+    {
+        if let Some(place) = (variable as usize).checked_sub(1) {
+            // By index: once a loan by `get_mut` is over, a proof knows no elements of the array.
+            if place < self.entries.len() {
+                self.entries[place] = entry;
+            }
+        }
     }
 
     /// Holds a variable on (or off). A number that no variable has changes nothing.
     pub fn hold(&mut self, variable: u16, on: bool)
         ensures { self.new.entries ≡ with_entry self.old.entries variable (held on) }
     {
-        let entry = if on { Entry::On } else { Entry::Off };
-        put_in(&mut self.entries, variable, entry);
+        self.put(variable, Entry::from(on));
     }
 
     /// Sets a variable free. A number that no variable has changes nothing.
     pub fn release(&mut self, variable: u16)
         ensures { self.new.entries ≡ with_entry self.old.entries variable Entry.Free }
     {
-        put_in(&mut self.entries, variable, Entry::Free);
+        self.put(variable, Entry::Free);
     }
 
     /// Whether the selection held has a variable on.
@@ -70,10 +75,7 @@ impl Holds {
         requires { 0 < variable }
         ensures { result ≡ selected self.now.entries variable }
     {
-        match self.entry(variable) {
-            Entry::On => true,
-            Entry::Free | Entry::Off => false,
-        }
+        self.entry(variable) == Entry::On
     }
 
     /// Whether a variable is not held.
@@ -81,10 +83,7 @@ impl Holds {
         requires { 0 < variable }
         ensures { result ≡ is_free (entry_of self.now.entries variable) }
     {
-        match self.entry(variable) {
-            Entry::Free => true,
-            Entry::On | Entry::Off => false,
-        }
+        self.entry(variable) == Entry::Free
     }
 
     /// Whether a hold contradicts a variable's on (or off) literal.
@@ -92,10 +91,6 @@ impl Holds {
         requires { 0 < variable }
         ensures { result ≡ denies_side (entry_of self.now.entries variable) on }
     {
-        match self.entry(variable) {
-            Entry::Free => false,
-            Entry::On => !on,
-            Entry::Off => on,
-        }
+        self.entry(variable) == Entry::from(!on)
     }
 }

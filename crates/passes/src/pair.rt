@@ -1,325 +1,230 @@
 //! The pair pass: a value for every node, and its on and off value for each free option that it
 //! mentions.
-ghost use Rattle.std.specs.Prelude.{◌≡◌, ◌+◌, ◌*◌, ◌<◌, ◌≤◌, true, ◌++◌, length, take, drop, None};
-ghost use Rattle.table.specs.Circuit.{every, mentions};
+ghost use Rattle.std.specs.Prelude.{◌≡◌, ◌+◌, ◌*◌, ◌<◌, ◌≤◌, true, ◌++◌, length, take, drop, false, None};
+ghost use Rattle.table.specs.Circuit.{mentions};
 ghost use Rattle.table.specs.Facts.{about};
-ghost use Rattle.table.specs.Nodes.{shape};
 ghost use Rattle.table.specs.Sound.{options as options_of};
 ghost use Rattle.table.specs.Whole.{circuit, roles};
-ghost use Rattle.passes.specs.Steps.{inside, ranged, readable};
 ghost use Rattle.passes.specs.Passes.{work as laid_out, pairs};
-ghost use Rattle.passes.specs.Rows.{under_in, product_under, side_in, open_at, side_or_zero, lowered, lowest, row_in, value_by, part_in, over};
+ghost use Rattle.passes.specs.Rows.{under_in, open_at, side_or_zero, lowest, row_in, value_by, part_in};
+ghost use Rattle.passes.specs.Ways.{side_way};
 
-use crate::holds::Holds;
-use crate::plain::{fork_value, node_plain};
-use crate::values::value_of;
+use crate::parts::Parts;
+use crate::plain::Plain;
+use crate::query::Query;
+use crate::rule::Rule;
 use kinds::figure::Figure;
 use kinds::order::{greater, lesser};
 use table::table::Table;
-use text::record::{Form, Node};
+use text::record::Role;
 
-/// The value of a node under an option on (or off), whose on (or off) value stands at `place` of
-/// each part.
-fn under<K: Figure>(
-    table: &Table,
-    done: &[K],
-    stride: usize,
-    variable: u16,
-    place: usize,
-    node: u16,
-) -> K
-    requires place { place < stride }
-    requires inside { inside (length done.now) stride node ≡ true }
-    ensures { result ≡ under_in K.ring (mentions (circuit table.now)) stride done.now variable place node }
-{
-    let value = value_of(done, stride, node);
-    if table.does_mention(node as usize, variable) {
-        lesser(value, done[node as usize * stride + place])
-    } else {
-        value
-    }
-}
-
-/// The product of the children's values under an option on (or off).
-fn product_under<K: Figure>(
-    table: &Table,
-    done: &[K],
-    stride: usize,
-    variable: u16,
-    place: usize,
-    children: &[u16],
-) -> K
-    requires place { place < stride }
-    requires inside { every (inside (length done.now) stride) children.now ≡ true }
-    ensures { result ≡ product_under K.ring (mentions (circuit table.now)) stride done.now variable place children.now }
-{
-    let mut all = K::one();
-    for c in children {
-        all = all.times(under(table, done, stride, variable, place, *c));
-    }
-    all
-}
-
-/// A node's on (or off) value for a free option that it mentions.
-fn side<K: Figure>(
-    table: &Table,
-    done: &[K],
-    stride: usize,
+/// A side of an option, on or off: its literal counts one, the other literal zero. A child that
+/// mentions the option counts the lesser of its value and of its value on that side, which stands at
+/// `place` of its part.
+#[derive(Clone, Copy)]
+struct Side {
     variable: u16,
     on: bool,
     place: usize,
-    node: Node,
-) -> K
-    requires place { place < stride }
-    requires ranged { ranged table.now.children.now node ≡ true }
-    requires readable { readable (length (roles table.now)) (length done.now) stride (shape table.now.children.now node) ≡ true }
-    ensures { result ≡ side_in K.ring (mentions (circuit table.now)) stride done.now (roles table.now) (shape table.now.children.now node) on variable place }
-{
-    let first = node.first as usize;
-    match node.form {
-        Form::Literal {
-            variable: _,
-            on: side,
-        } => if on == side { K::one() } else { K::zero() },
-        Form::And => product_under(
-            table,
-            done,
-            stride,
-            variable,
-            place,
-            &table.children[first..first + node.count as usize],
-        ),
-        Form::Fork { variable: fork } => {
-            let a = under(table, done, stride, variable, place, table.children[first]);
-            let b = under(
-                table,
-                done,
-                stride,
-                variable,
-                place,
-                table.children[first + 1],
-            );
-            fork_value(table, fork, a, b)
+}
+
+impl<K: Figure> Rule<K> for Side {
+    ghost way = { λ s q. side_way K.ring (roles q.table.now) s.on };
+
+    ghost child_in = { λ s q stride places. under_in K.ring (mentions (circuit q.table.now)) stride places s.variable s.place };
+
+    ghost fits = { λ s stride. s.place < stride };
+
+    fn literal(&self, query: &Query<K>, variable: u16, on: bool) -> K {
+        if self.on == on { K::one() } else { K::zero() }
+    }
+
+    fn truth(&self, query: &Query<K>) -> K {
+        K::zero()
+    }
+
+    fn join(&self, query: &Query<K>, variable: u16, on: K, off: K) -> K {
+        query.join(variable, on, off)
+    }
+
+    fn child(&self, query: &Query<K>, parts: &Parts<K>, node: u16) -> K {
+        let value = parts.value(node);
+        if query.table.does_mention(node as usize, self.variable) {
+            let side = parts.places[node as usize * parts.stride + self.place];
+            lesser(value, side)
+        } else {
+            value
         }
-        Form::True | Form::False => K::zero(),
+    }
+}
+
+/// The step at one node: the query, its options by rising number, the parts of the nodes before it,
+/// and the node's number.
+#[derive(Drop)]
+struct Step<'a, 'b, 'c, K> {
+    query: &'a Query<'a, K>,
+    options: &'b [u16],
+    parts: Parts<'c, K>,
+    node: usize,
+    ghost listed: { options.now ≡ options_of (roles query.now.table.now) },
+    ghost stride: { parts.stride ≡ 2 * length options.now + 1 },
+    ghost inside: { node < length query.now.table.now.nodes.now },
+    ghost before: { length parts.places.now ≡ node * parts.stride },
+}
+
+impl<K: Figure> Step<'_, '_, '_, K> {
+    /// Whether the node has values for an option: the option is free, and the node mentions it.
+    fn is_open(&self, variable: u16) -> bool
+        requires { 0 < variable }
+        ensures { result ≡ open_at self.now.query.now.holds.now.entries (about (circuit self.now.query.now.table.now) self.now.node) variable }
+    {
+        self.query.holds.is_free(variable) && self.query.table.does_mention(self.node, variable)
+    }
+
+    /// What stands in the node's part for an option, on and off: zero if there is no such value.
+    fn sides(&self, variable: u16, on_place: usize, off_place: usize) -> (K, K)
+        requires variable { 0 < variable }
+        requires on { on_place < self.now.parts.stride }
+        requires off { off_place < self.now.parts.stride }
+        ensures on { result.0 ≡ side_or_zero K.ring (mentions (circuit self.now.query.now.table.now)) self.now.parts.stride self.now.parts.places.now (roles self.now.query.now.table.now) self.now.query.now.holds.now.entries (circuit self.now.query.now.table.now) self.now.node true variable on_place }
+        ensures off { result.1 ≡ side_or_zero K.ring (mentions (circuit self.now.query.now.table.now)) self.now.parts.stride self.now.parts.places.now (roles self.now.query.now.table.now) self.now.query.now.holds.now.entries (circuit self.now.query.now.table.now) self.now.node false variable off_place }
+    {
+        if !self.is_open(variable) {
+            return (K::zero(), K::zero());
+        }
+        let on = Side {
+            variable,
+            on: true,
+            place: on_place,
+        };
+        let off = Side {
+            variable,
+            on: false,
+            place: off_place,
+        };
+        (
+            self.query.node_at(&on, &self.parts, self.node),
+            self.query.node_at(&off, &self.parts, self.node),
+        )
+    }
+
+    /// Writes the node's on and off value for each option behind the place of its value.
+    fn write_sides(&self, part: &mut [K])
+        requires { length part.old ≡ self.now.parts.stride }
+        ensures { drop 1 part.new ≡ row_in K.ring (roles self.now.query.now.table.now) self.now.query.now.holds.now.entries (circuit self.now.query.now.table.now) self.now.parts.stride self.now.parts.places.now self.now.node self.now.options.now }
+    {
+        for (j, &variable) in self.options.iter().enumerate() {
+            let on_place = 2 * j + 1;
+            let off_place = 2 * j + 2;
+            let (on, off) = self.sides(variable, on_place, off_place);
+            part[on_place] = on;
+            part[off_place] = off;
+        }
+    }
+
+    /// The least, over the free options that the node mentions, of the greater of the two values in
+    /// its row.
+    fn least(&self, row: &[K]) -> Option<K>
+        requires { length row.now ≡ 2 * length self.now.options.now }
+        ensures { result ≡ lowest K.ring (open_at self.now.query.now.holds.now.entries (about (circuit self.now.query.now.table.now) self.now.node)) row.now None 0 self.now.options.now }
+    {
+        let mut best = None;
+        for (j, variable) in self.options.iter().enumerate() {
+            if self.is_open(*variable) {
+                let higher = greater(row[2 * j], row[2 * j + 1]);
+                best = match best {
+                    Some(least) => Some(lesser(least, higher)),
+                    None => Some(higher),
+                };
+            }
+        }
+        best
+    }
+
+    /// The node's value: the least over the free options that it mentions, or its plain value.
+    fn value(&self, row: &[K]) -> K
+        requires { length row.now ≡ 2 * length self.now.options.now }
+        ensures { result ≡ value_by K.ring (roles self.now.query.now.table.now) self.now.query.now.sheet.now self.now.query.now.holds.now.entries (circuit self.now.query.now.table.now) self.now.parts.stride self.now.parts.places.now row.now self.now.node self.now.options.now }
+    {
+        match self.least(row) {
+            Some(least) => least,
+            None => self.query.node_at(&Plain, &self.parts, self.node),
+        }
     }
 }
 
 /// Lists the options by rising number: how many there are.
+// An array with a count, and not a list that grows: the engine has no heap.
 fn list_options(table: &Table, out: &mut [u16]) -> usize
     requires { length (roles table.now) ≤ length out.old }
     ensures listed { take result out.new ≡ options_of (roles table.now) }
     ensures few { result ≤ length (roles table.now) }
 {
-    let mut n = 0;
-    for i in 0..table.variables.as_slice().len() {
-        let variable = i as u16 + 1;
-        if table.has_option(variable) {
-            out[n] = variable;
-            n += 1;
+    let mut count = 0;
+    for (i, variable) in table.variables.as_slice().iter().enumerate() {
+        match variable.role {
+            Role::Option => {
+                out[count] = i as u16 + 1;
+                count += 1;
+            }
+            Role::Chance => {}
         }
     }
-    n
+    count
 }
 
-/// Whether a node has values for an option: the option is free, and the node mentions it.
-fn is_open(table: &Table, holds: &Holds, node: usize, variable: u16) -> bool
-    requires { 0 < variable }
-    ensures { result ≡ open_at holds.now.entries (about (circuit table.now) node) variable }
-{
-    holds.is_free(variable) && table.does_mention(node, variable)
-}
-
-/// What stands in a node's part for an option on (or off): zero if there is no such value.
-fn side_at<K: Figure>(
-    table: &Table,
-    holds: &Holds,
-    done: &[K],
-    stride: usize,
-    variable: u16,
-    on: bool,
-    place: usize,
-    node: usize,
-) -> K
-    requires place { place < stride }
-    requires variable { 0 < variable }
-    requires node { node < length table.now.nodes.now }
-    requires done { length done.now ≡ node * stride }
-    ensures { result ≡ side_or_zero K.ring (mentions (circuit table.now)) stride done.now (roles table.now) holds.now.entries (circuit table.now) node on variable place }
-{
-    if is_open(table, holds, node, variable) {
-        side(table, done, stride, variable, on, place, table.nodes[node])
-    } else {
-        K::zero()
+impl<K: Figure> Query<'_, K> {
+    /// How many places a work table needs for the pair pass.
+    pub fn pair_room(&self) -> usize
+        ensures { result ≡ length (circuit self.now.table.now) * (2 * length (options_of (roles self.now.table.now)) + 1) }
+    {
+        self.table.nodes.len() * (2 * self.table.variables.options() + 1)
     }
-}
 
-/// The least so far, with one more option.
-fn lowered<K: Figure>(best: Option<K>, taken: bool, on: K, off: K) -> Option<K>
-    ensures { result ≡ lowered K.ring best taken on off }
-{
-    if !taken {
-        return best;
-    }
-    let higher = greater(on, off);
-    match best {
-        Some(least) => Some(lesser(least, higher)),
-        None => Some(higher),
-    }
-}
-
-/// Writes a node's on and off value for each option behind the place of its value.
-fn write_sides<K: Figure>(
-    table: &Table,
-    holds: &Holds,
-    options: &[u16],
-    stride: usize,
-    node: usize,
-    work: &mut [K],
-)
-    requires listed { options.now ≡ options_of (roles table.now) }
-    requires stride { stride ≡ 2 * length options.now + 1 }
-    requires node { node < length table.now.nodes.now }
-    requires room { node * stride + stride ≤ length work.old }
-    ensures { work.new ≡ over work.old (node * stride + 1) (row_in K.ring (roles table.now) holds.now.entries (circuit table.now) stride (take (node * stride) work.old) node options.now) }
-{
-    let base = node * stride;
-    for j in 0..options.len() {
-        let variable = options[j];
-        let on_place = 2 * j + 1;
-        let off_place = 2 * j + 2;
-        let on = side_at(
-            table,
-            holds,
-            &work[0..base],
-            stride,
-            variable,
-            true,
-            on_place,
+    /// Writes a node's part, from those of the nodes before it.
+    fn write_part(&self, options: &[u16], node: usize, places: &[K], part: &mut [K])
+        requires listed { options.now ≡ options_of (roles self.now.table.now) }
+        requires node { node < length self.now.table.now.nodes.now }
+        requires part { length part.old ≡ 2 * length options.now + 1 }
+        requires places { length places.now ≡ node * (2 * length options.now + 1) }
+        ensures { part.new ≡ part_in K.ring (roles self.now.table.now) self.now.sheet.now self.now.holds.now.entries (circuit self.now.table.now) (2 * length options.now + 1) places.now node options.now }
+    {
+        let parts = Parts {
+            places,
+            stride: part.len(),
+        };
+        let step = Step {
+            query: self,
+            options,
+            parts,
             node,
-        );
-        let off = side_at(
-            table,
-            holds,
-            &work[0..base],
-            stride,
-            variable,
-            false,
-            off_place,
-            node,
-        );
-        work[base + on_place] = on;
-        work[base + off_place] = off;
+        };
+        step.write_sides(part);
+        part[0] = step.value(&part[1..]);
     }
-}
 
-/// The least, over the free options that a node mentions, of the greater of the two values in its
-/// row.
-fn least_side<K: Figure>(
-    table: &Table,
-    holds: &Holds,
-    options: &[u16],
-    node: usize,
-    row: &[K],
-) -> Option<K>
-    requires listed { options.now ≡ options_of (roles table.now) }
-    requires row { length row.now ≡ 2 * length options.now }
-    ensures { result ≡ lowest K.ring (open_at holds.now.entries (about (circuit table.now) node)) row.now None 0 options.now }
-{
-    let mut best = None;
-    for j in 0..options.len() {
-        let taken = is_open(table, holds, node, options[j]);
-        best = lowered(best, taken, row[2 * j], row[2 * j + 1]);
+    /// Writes the parts of the nodes, in order, by the list of the options.
+    fn write_parts(&self, options: &[u16], work: &mut [K])
+        requires listed { options.now ≡ options_of (roles self.now.table.now) }
+        requires room { length (circuit self.now.table.now) * (2 * length options.now + 1) ≤ length work.old }
+        ensures { work.new ≡ laid_out K.ring (roles self.now.table.now) self.now.sheet.now (pairs K.ring (roles self.now.table.now) self.now.sheet.now (circuit self.now.table.now) self.now.holds.now.entries) ++ drop (length (circuit self.now.table.now) * (2 * length options.now + 1)) work.old }
+    {
+        let stride = 2 * options.len() + 1;
+        for node in 0..self.table.nodes.len() {
+            let (places, rest) = work.split_at_mut(node * stride);
+            self.write_part(options, node, places, &mut rest[..stride]);
+        }
     }
-    best
-}
 
-/// A node's value: the least over the free options that it mentions, or its plain value.
-fn part_value<K: Figure>(
-    table: &Table,
-    sheet: &[K],
-    holds: &Holds,
-    options: &[u16],
-    stride: usize,
-    node: usize,
-    done: &[K],
-    row: &[K],
-) -> K
-    requires sheet { 2 * length (roles table.now) ≤ length sheet.now }
-    requires listed { options.now ≡ options_of (roles table.now) }
-    requires stride { 0 < stride }
-    requires node { node < length table.now.nodes.now }
-    requires done { length done.now ≡ node * stride }
-    requires row { length row.now ≡ 2 * length options.now }
-    ensures { result ≡ value_by K.ring (roles table.now) sheet.now holds.now.entries (circuit table.now) stride done.now row.now node options.now }
-{
-    match least_side(table, holds, options, node, row) {
-        Some(least) => least,
-        None => node_plain(table, sheet, holds, done, stride, table.nodes[node]),
+    /// Writes the parts of the nodes, in order, into the first places of `work`. With k options a
+    /// part has 2k + 1 places: the node's value, then each option's on and off value by rising
+    /// number, zero where there is none.
+    pub fn pair_pass(&self, work: &mut [K])
+        requires room { length (circuit self.now.table.now) * (2 * length (options_of (roles self.now.table.now)) + 1) ≤ length work.old }
+        ensures { work.new ≡ laid_out K.ring (roles self.now.table.now) self.now.sheet.now (pairs K.ring (roles self.now.table.now) self.now.sheet.now (circuit self.now.table.now) self.now.holds.now.entries) ++ drop (length (circuit self.now.table.now) * (2 * length (options_of (roles self.now.table.now)) + 1)) work.old }
+    {
+        let mut numbers = [0; 64];
+        let count = list_options(self.table, &mut numbers);
+        self.write_parts(&numbers[..count], work);
     }
-}
-
-/// Writes a node's part.
-fn write_part<K: Figure>(
-    table: &Table,
-    sheet: &[K],
-    holds: &Holds,
-    options: &[u16],
-    stride: usize,
-    node: usize,
-    work: &mut [K],
-)
-    requires sheet { 2 * length (roles table.now) ≤ length sheet.now }
-    requires listed { options.now ≡ options_of (roles table.now) }
-    requires stride { stride ≡ 2 * length options.now + 1 }
-    requires node { node < length table.now.nodes.now }
-    requires room { node * stride + stride ≤ length work.old }
-    ensures { work.new ≡ over work.old (node * stride) (part_in K.ring (roles table.now) sheet.now holds.now.entries (circuit table.now) stride (take (node * stride) work.old) node options.now) }
-{
-    write_sides(table, holds, options, stride, node, work);
-    let base = node * stride;
-    let value = part_value(
-        table,
-        sheet,
-        holds,
-        options,
-        stride,
-        node,
-        &work[0..base],
-        &work[base + 1..base + stride],
-    );
-    work[base] = value;
-}
-
-/// Writes the parts of the nodes, in order, by the list of the options.
-fn write_parts<K: Figure>(
-    table: &Table,
-    sheet: &[K],
-    holds: &Holds,
-    options: &[u16],
-    work: &mut [K],
-)
-    requires sheet { 2 * length (roles table.now) ≤ length sheet.now }
-    requires listed { options.now ≡ options_of (roles table.now) }
-    requires few { length options.now ≤ 64 }
-    requires room { length (circuit table.now) * (2 * length options.now + 1) ≤ length work.old }
-    ensures { work.new ≡ laid_out K.ring (roles table.now) sheet.now (pairs K.ring (roles table.now) sheet.now (circuit table.now) holds.now.entries) ++ drop (length (circuit table.now) * (2 * length options.now + 1)) work.old }
-{
-    let stride = 2 * options.len() + 1;
-    for i in 0..table.nodes.len() {
-        write_part(table, sheet, holds, options, stride, i, work);
-    }
-}
-
-/// Writes the parts of the nodes, in order, into the first places of `work`. With k options a part
-/// has 2k + 1 places: the node's value, then each option's on and off value by rising number, zero
-/// where there is none.
-pub fn pair_pass<K: Figure>(table: &Table, sheet: &[K], holds: &Holds, work: &mut [K])
-    requires room { length (circuit table.now) * (2 * length (options_of (roles table.now)) + 1) ≤ length work.old }
-    requires sheet { 2 * length (roles table.now) ≤ length sheet.now }
-    ensures { work.new ≡ laid_out K.ring (roles table.now) sheet.now (pairs K.ring (roles table.now) sheet.now (circuit table.now) holds.now.entries) ++ drop (length (circuit table.now) * (2 * length (options_of (roles table.now)) + 1)) work.old }
-{
-    let mut numbers = [0; 64];
-    let count = list_options(table, &mut numbers);
-    write_parts(table, sheet, holds, &numbers[0..count], work);
 }

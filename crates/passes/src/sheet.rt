@@ -6,34 +6,12 @@ ghost use Rattle.passes.specs.Steps.{place};
 use kinds::figure::Figure;
 
 /// Where a variable's on (or off) weight stands.
-fn place_of(variable: u16, on: bool) -> usize
+pub(crate) fn place_of(variable: u16, on: bool) -> usize
     requires { 0 < variable }
     ensures { result ≡ place variable on }
 {
-    if on {
-        2 * variable as usize - 2
-    } else {
-        2 * variable as usize - 1
-    }
-}
-
-/// Writes a variable's two weights.
-fn weigh_in<K: Figure>(figures: &mut [K], variable: u16, on: K, off: K)
-    requires { (0 < variable) × (2 * variable ≤ length figures.old) }
-    ensures { figures.new ≡ slice_set (slice_set figures.old (place variable true) on) (place variable false) off }
-{
-    let on_place = place_of(variable, true);
-    let off_place = place_of(variable, false);
-    figures[on_place] = on;
-    figures[off_place] = off;
-}
-
-/// A variable's on (or off) weight.
-pub(crate) fn look_up<K: Figure>(figures: &[K], variable: u16, on: bool) -> K
-    requires { (0 < variable) × (2 * variable ≤ length figures.now) }
-    ensures { result ≡ weight K.ring figures.now variable on }
-{
-    figures[place_of(variable, on)]
+    let after = 2 * variable as usize;
+    if on { after - 2 } else { after - 1 }
 }
 
 /// A caller's store of figures. Counted from 0, place 2i - 2 is the on weight of variable i, and
@@ -43,14 +21,15 @@ pub struct Sheet<'a, K> {
     pub figures: &'a mut [K],
 }
 
-impl<'a, K: Figure> Sheet<'a, K> {
+impl<K: Figure> Sheet<'_, K> {
     /// Writes a variable's two weights.
     pub fn weigh(&mut self, variable: u16, on: K, off: K)
         requires { (0 < variable) × (2 * variable ≤ length self.old.figures.now) }
         ensures same { self.new.figures.ghost_name ≡ self.old.figures.ghost_name }
         ensures after { self.new.figures.now ≡ slice_set (slice_set self.old.figures.now (place variable true) on) (place variable false) off }
     {
-        weigh_in(self.figures, variable, on, off)
+        self.figures[place_of(variable, true)] = on;
+        self.figures[place_of(variable, false)] = off;
     }
 
     /// A variable's on (or off) weight.
@@ -58,6 +37,6 @@ impl<'a, K: Figure> Sheet<'a, K> {
         requires { (0 < variable) × (2 * variable ≤ length self.now.figures.now) }
         ensures { result ≡ weight K.ring self.now.figures.now variable on }
     {
-        look_up(self.figures, variable, on)
+        self.figures[place_of(variable, on)]
     }
 }

@@ -1,5 +1,4 @@
 //! The calls of a study, and their answers.
-use crate::fault::Fault;
 use crate::found::Found;
 
 /// What a study is asked. A variable goes by its number.
@@ -14,10 +13,9 @@ pub enum Call<K> {
     Select,
 }
 
-/// What a study answers.
+/// What an accepted call is answered. A call that is not accepted is answered its `Fault`.
 #[derive(Clone, Copy)]
-pub enum Answer<K> {
-    Refused(Fault),
+pub enum Reply<K> {
     Done,
     Value(K),
     Chosen(Found<K>),

@@ -3,6 +3,7 @@
 
 pub mod build;
 pub mod check;
+mod convert;
 pub mod fault;
 mod known;
 pub mod mentions;

@@ -8,6 +8,7 @@ use table::mentions::Mentions;
 use text::fault::Layer;
 use text::reader::read_table;
 use text::record::{Form, Node, Variables};
+use text::refusal::Refusal;
 
 /// The number and the place of a refusal, or twice 0 for none.
 pub type Refusal = (u8, usize);

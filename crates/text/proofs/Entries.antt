@@ -1,34 +1,26 @@
 -- What a node line says, by its fields. Assumes nothing.
-use Rattle.std.proofs.Common.{◌≡◌, ℕ, suc, ◌+◌, ◌<◌, ◌≤◌, true, false, cond, eqb, List, [], ◌∷◌, map, length, get_or, drop, Ok, Err, Option, Result, sym, refl, ap, ◌∙◌, arith}
+use Rattle.std.proofs.Common.{◌≡◌, ℕ, ◌+◌, ◌<◌, ◌≤◌, true, false, cond, eqb, List, [], ◌∷◌, map, length, get_or, drop, Ok, Err, Option, Result, sym, refl, ap, ◌∙◌, arith}
 use Rattle.std.proofs.lemmas.Bool.{cond-true, cond-false}
+use Rattle.std.proofs.lemmas.List.Splits.{length-slice_split}
+use Rattle.std.proofs.lemmas.List.Sums.{count_by-le-length}
 use Rattle.text.specs.declared.fault.Reason.{Reason}
 use Rattle.text.specs.declared.fault.Reason.TheVariants as reason
 use Rattle.text.specs.declared.kind.Kind.TheVariants as kind
 use Rattle.text.specs.declared.record.Form.{Form}
 use Rattle.text.specs.declared.record.Form.TheVariants.{And, Fork, True, False}
-use Rattle.text.specs.Lines.{every, onto, fields}
+use Rattle.text.specs.Lines.{every, fields}
 use Rattle.text.specs.Numerals.{number}
 use Rattle.text.specs.Format.{Said, Entry, then, no_field, number_field, is_number, number_or_zero, numbers, entry_of, entry_says, literal, literal_of, said_literal}
 use Rattle.text.specs.declared.nodes.NodeLine.{NodeLine}
 use Rattle.text.specs.Steps.{Answers, Heard}
-use Rattle.text.proofs.Cuts.{length_onto}
 use Rattle.text.proofs.Says.{four, not_four}
 
--- a line has a field
+-- a line has a field, and at most one more than it has bytes
 pub some_field : (xs : List ℕ) → 1 ≤ length (fields xs)
-some_field [] = omega arith
-some_field (x ∷ xs) = elim (eqb x 9) as (λ t. 1 ≤ length (cond t ([] ∷ fields xs) (onto x (fields xs)))) [
-  | true ↦ omega arith
-  | false ↦ omega (arith, some_field xs, length_onto x (fields xs))
-]
+some_field xs = omega (arith, length-slice_split (λ b. eqb b 9) xs)
 
--- and at most one more than it has bytes
 pub few_fields : (xs : List ℕ) → length (fields xs) ≤ length xs + 1
-few_fields [] = omega arith
-few_fields (x ∷ xs) = elim (eqb x 9) as (λ t. length (cond t ([] ∷ fields xs) (onto x (fields xs))) ≤ suc (length xs) + 1) [
-  | true ↦ omega (arith, few_fields xs)
-  | false ↦ omega (arith, few_fields xs, length_onto x (fields xs))
-]
+few_fields xs = omega (arith, length-slice_split (λ b. eqb b 9) xs, count_by-le-length (λ b. eqb b 9) xs)
 
 -- a leaf has no field but the first
 pub leaf : (fs : List (List ℕ)) (f : Form) → length fs ≡ 1 → no_field (drop 1 fs) (Ok (entry_of f [])) ≡ Ok (entry_of f (map number_or_zero (drop 1 fs)))

@@ -9,3 +9,4 @@ pub mod Sections
 pub mod Runs
 pub mod Printable
 pub mod Filled
+pub mod Printed

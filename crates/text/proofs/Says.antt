@@ -52,9 +52,10 @@ unfolding variable_says
 variable_four before fs a r name h p q e = (λ i. then (p i) (λ n. said_variable before n (q i) (e i))) ∙ sym (four fs _ h)
 
 -- a variable counts once at most
+pub one_within : (r : Role) → one_if_option r ≤ 1
+one_within role.Option = omega arith
+one_within role.Chance = omega arith
+
 pub options_within : (vs : List Variable) → options vs ≤ length vs
 options_within [] = omega arith
-options_within (v ∷ vs) = let l = options_within vs in omega (arith, one v.role)
-  where
-    one : (r : Role) → one_if_option r ≤ 1
-    one r = elim r as (λ r. one_if_option r ≤ 1) [ role.Option ↦ omega arith | role.Chance ↦ omega arith ]
+options_within (v ∷ vs) = omega (arith, options_within vs, one_within v.role)

@@ -1,5 +1,5 @@
 //! What the header line and a variable line say.
-ghost use Rattle.std.specs.Prelude.{◌≡◌, ◌<◌, [], length, drop, slice_index_or};
+ghost use Rattle.std.specs.Prelude.{◌≡◌, [], drop, slice_index_or};
 ghost use Rattle.text.specs.Lines.{fields};
 ghost use Rattle.text.specs.Format.{number_field, header_says, role_of, variable_says, listed, Rooms};
 
@@ -7,17 +7,12 @@ use crate::fault::Reason;
 use crate::fields::{field, field_count};
 use crate::numeral::read_number;
 use crate::record::{Header, Name, Role, Variable, Variables};
-use crate::variables::same_bytes;
 
 /// The number in the field `k` of a line.
 pub fn number_field(line: &[u8], k: usize) -> Result<u16, Reason>
-    requires { k < length (fields line.now) }
     ensures { result ≡ number_field (slice_index_or (fields line.now) k []) }
 {
-    match read_number(field(line, k)) {
-        Some(n) => Ok(n),
-        None => Err(Reason::Number),
-    }
+    read_number(field(line, k)).ok_or(Reason::Number)
 }
 
 /// The header line, with the lengths of the two stores.
@@ -51,12 +46,10 @@ pub(crate) fn header_line(
 pub(crate) fn role(letter: &[u8]) -> Option<Role>
     ensures { result ≡ role_of letter.now }
 {
-    if same_bytes(letter, b"E") {
-        Some(Role::Option)
-    } else if same_bytes(letter, b"R") {
-        Some(Role::Chance)
-    } else {
-        None
+    match letter {
+        b"E" => Some(Role::Option),
+        b"R" => Some(Role::Chance),
+        _ => None,
     }
 }
 
@@ -68,15 +61,10 @@ pub(crate) fn variable_line(line: &[u8], before: &Variables) -> Result<Variable,
         return Err(Reason::Line);
     }
     let number = number_field(line, 1)?;
-    let Some(role) = role(field(line, 2)) else {
-        return Err(Reason::Variable);
-    };
+    let role = role(field(line, 2)).ok_or(Reason::Variable)?;
     let name = field(line, 3);
     let due = before.as_slice().len() + 1;
-    let options = match role {
-        Role::Option => before.options() + 1,
-        Role::Chance => before.options(),
-    };
+    let options = before.options() + usize::from(role == Role::Option);
     if number as usize != due
         || name.len() < 1
         || name.len() > 24

@@ -1,51 +1,32 @@
-use Rattle.std.proofs.Common.{ℕ, ◌+◌, ◌<◌, ◌≤◌, true, ◌++◌, length, take, drop, sym, ap, ◌∙◌, ap₂, arith}
-use Rattle.table.specs.Sound.{from}
+use Rattle.std.proofs.Common.{◌≡◌, ℕ, ◌+◌, ◌<◌, ◌++◌, false, length, get_or, take, sym, ap, ap₂, ◌∙◌, arith}
+use Rattle.std.proofs.lemmas.List.{get_or-map}
+use Rattle.text.specs.declared.record.Variable.{Variable}
+use Rattle.text.specs.Format.{listed}
+use Rattle.table.specs.Nodes.{is_option_role}
 use Rattle.table.specs.Whole.{roles}
-use Rattle.table.proofs.Asked.{variables_long, variables_few}
-use Rattle.passes.proofs.Options.{list_option, list_chance, list_all}
+use Rattle.table.proofs.Asked.{variables_long}
+use Rattle.passes.proofs.Options.{rest_from, list_option, list_chance}
 use Rattle.passes.proofs.pair.list_options.Goals as goal
-use Rattle.passes.proofs.pair.list_options.Goals.{then-has_option, else-has_option}
-
-pub overflow_cast-variable : goal.overflow_cast-variable
-overflow_cast-variable c =
-    let t = c.args.table.now in
-    omega (arith, ap length c.as_slice-i-end.ensures, variables_long t, variables_few t)
-
-pub overflow_add-variable : goal.overflow_add-variable
-overflow_add-variable c =
-    let t = c.args.table.now in
-    omega (arith, ap length c.as_slice-i-end.ensures, variables_long t, variables_few t)
-
-pub bounds-out-n : goal.bounds-out-n
-bounds-out-n c =
-    let t = c.args.table.now in
-    omega (arith, ap length c.as_slice-i-end.ensures, variables_long t)
+use Rattle.passes.proofs.pair.list_options.Goals.{in-Option, in-Chance}
 
 pub loop-i-preserved : goal.loop-i-preserved
 loop-i-preserved c =
-    let t = c.args.table.now in
+    let rs = roles c.args.table.now in
     let i : ℕ = c.loop-i.i in
-    let short : i < length (roles t) = omega (arith, ap length c.as_slice-i-end.ensures, variables_long t) in
-    let room : c.loop-i.n < length c.loop-i.out = omega (arith, c.loop-i.invariant.few, c.loop-i.invariant.long, c.requires) in
-    let rest = from (i + 1 + 1) true (drop (i + 1) (roles t)) in
-    elim c.if-has_option.branch [
-      | then-has_option w ↦ record {
-        listed = ap₂ (λ k o. take k o ++ rest) w.n-is w.out-is ∙ list_option (roles t) c.loop-i.out c.loop-i.n i short (sym c.has_option.ensures ∙ w.if-has_option.true) room _ c.loop-i.invariant.listed;
-        few = omega (arith, w.n-is, c.loop-i.invariant.few);
-        long = c.if-has_option.auto.out ∙ c.loop-i.invariant.long;
+    let x : Variable = c.variable-item.result in
+    let short : i < length rs = omega (arith, ap length c.as_slice-variable-items.ensures, variables_long c.args.table.now) in
+    let role : get_or rs i false ≡ is_option_role x.role =
+    get_or-map (λ y. is_option_role y.role) (listed c.args.table.now.variables) i x false (let v = variables_long c.args.table.now in omega arith)
+    ∙ sym (ap (λ y. is_option_role y.role) (c.variable-item.is ∙ ap (λ vs. get_or vs i x) c.as_slice-variable-items.ensures)) in
+    elim c.match-variable.branch [
+      | in-Option w ↦ record {
+        listed = ap₂ (λ k o. take k o ++ rest_from rs (i + 1)) w.count-is w.out-is
+            ∙ list_option rs c.loop-i.out c.loop-i.count i short (role ∙ ap is_option_role w.in-Option.is) (omega (arith, c.loop-i.invariant.few, c.loop-i.auto.out, c.requires)) _ c.loop-i.invariant.listed;
+        few = omega (arith, w.count-is, c.loop-i.invariant.few);
       }
-      | else-has_option w ↦ record {
-        listed = ap₂ (λ k o. take k o ++ rest) w.n-is w.out-is ∙ list_chance (roles t) c.loop-i.out c.loop-i.n i short (sym c.has_option.ensures ∙ w.if-has_option.false) _ c.loop-i.invariant.listed;
-        few = omega (arith, w.n-is, c.loop-i.invariant.few);
-        long = c.if-has_option.auto.out ∙ c.loop-i.invariant.long;
+      | in-Chance w ↦ record {
+        listed = ap₂ (λ k o. take k o ++ rest_from rs (i + 1)) w.count-is w.out-is
+            ∙ list_chance rs c.loop-i.out c.loop-i.count i short (role ∙ ap is_option_role w.in-Chance.is) _ c.loop-i.invariant.listed;
+        few = omega (arith, w.count-is, c.loop-i.invariant.few);
       }
     ]
-
-pub returns : goal.returns
-returns c =
-    let t = c.args.table.now in
-    let past : length (roles t) ≤ c.loop-i.i = omega (arith, ap length c.as_slice-i-end.ensures, variables_long t) in
-    record {
-      listed = list_all (roles t) c.loop-i.out c.loop-i.n c.loop-i.i past _ c.loop-i.invariant.listed;
-      few = omega (arith, ap length c.as_slice-i-end.ensures, variables_long t, c.loop-i.invariant.few, c.loop-i.auto.i-end);
-    }

@@ -1,6 +1,5 @@
-use Rattle.std.proofs.Common.{◌≤◌, length, sym, ap, ◌∙◌, arith}
-use Rattle.text.specs.Lines.{every, fields}
-use Rattle.text.specs.Format.{is_number}
+use Rattle.std.proofs.Common.{◌≤◌, length, sym, arith}
+use Rattle.text.specs.Lines.{fields}
 use Rattle.text.proofs.Entries.{and_short, and_wrong, and_right}
 use Rattle.text.proofs.nodes.and_line.Goals as goal
 
@@ -11,10 +10,10 @@ pub returns-then-not-all_numbers : goal.returns-then-not-all_numbers
 returns-then-not-all_numbers c =
     let fs = fields c.args.line.now in
     let long : 2 ≤ length fs = omega arith in
-    and_wrong fs long (sym (c.if-not-all_numbers.ensures ∙ ap (every is_number) c.from_field.ensures))
+    and_wrong fs long (sym c.if-not-all_numbers.ensures)
 
 pub returns : goal.returns
 returns c =
     let fs = fields c.args.line.now in
     let long : 2 ≤ length fs = omega arith in
-    (and_right fs long (sym (c.if-not-all_numbers.ensures ∙ ap (every is_number) c.from_field.ensures)), omega arith)
+    (and_right fs long (sym c.if-not-all_numbers.ensures), omega arith)

@@ -1,7 +1,6 @@
-use Rattle.std.proofs.Common.{◌≡◌, length, sym, ap, ◌∙◌, arith}
+use Rattle.std.proofs.Common.{◌≡◌, length, sym, ◌∙◌, arith}
 use Rattle.std.proofs.lemmas.Result.{err_from_is_err_and}
-use Rattle.text.specs.Lines.{every, fields}
-use Rattle.text.specs.Format.{is_number}
+use Rattle.text.specs.Lines.{fields}
 use Rattle.text.proofs.Entries.{fork_short, fork_variable, fork_wrong, fork_right}
 use Rattle.text.proofs.nodes.fork_line.Goals as goal
 
@@ -20,13 +19,13 @@ returns-then-not-all_numbers c =
     let fs = fields c.args.line.now in
     let four : length fs ≡ 4 = sym c.field_count.ensures ∙ c.if-field_count-ne4.false in
     fork_wrong fs four c.in_ok-variable.variable (sym c.in_ok-variable.was ∙ c.number_field.ensures)
-    (sym (c.if-not-all_numbers.ensures ∙ ap (every is_number) c.from_field.ensures))
+    (sym c.if-not-all_numbers.ensures)
 
 pub returns : goal.returns
 returns c =
     let fs = fields c.args.line.now in
     let four : length fs ≡ 4 = sym c.field_count.ensures ∙ c.if-field_count-ne4.false in (
       fork_right fs four c.in_ok-variable.variable (sym c.in_ok-variable.was ∙ c.number_field.ensures)
-          (sym (c.if-not-all_numbers.ensures ∙ ap (every is_number) c.from_field.ensures)),
+          (sym c.if-not-all_numbers.ensures),
       omega arith,
     )

@@ -1,0 +1,29 @@
+//! What a pass is asked.
+ghost use Rattle.std.specs.Prelude.{◌≡◌, ◌*◌, ◌≤◌, true, length};
+ghost use Rattle.table.specs.Count.{weight};
+ghost use Rattle.table.specs.Sound.{known};
+ghost use Rattle.table.specs.Whole.{roles};
+
+use crate::holds::Holds;
+use crate::sheet::place_of;
+use kinds::figure::Figure;
+use table::table::Table;
+
+/// A query of a checked table: two figures for each of its variables, and the holds.
+#[derive(Drop)]
+pub struct Query<'a, K> {
+    pub table: &'a Table<'a>,
+    pub sheet: &'a [K],
+    pub holds: &'a Holds,
+    ghost fits: { 2 * length (roles table.now) ≤ length sheet.now },
+}
+
+impl<K: Figure> Query<'_, K> {
+    /// A variable's on (or off) weight.
+    pub(crate) fn weight(&self, variable: u16, on: bool) -> K
+        requires { known (length (roles self.now.table.now)) variable ≡ true }
+        ensures { result ≡ weight K.ring self.now.sheet.now variable on }
+    {
+        self.sheet[place_of(variable, on)]
+    }
+}

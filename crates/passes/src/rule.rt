@@ -1,0 +1,112 @@
+//! What every pass does: it values the nodes in order, each from those before it, by a rule.
+ghost use Rattle.std.specs.Prelude.{◌≡◌, ℕ, ◌*◌, ◌<◌, ◌≤◌, true, List, ◌++◌, length, map, drop};
+ghost use Rattle.table.specs.Circuit.{every, upward};
+ghost use Rattle.table.specs.Facts.{node};
+ghost use Rattle.table.specs.Nodes.{shape};
+ghost use Rattle.table.specs.Sound.{known};
+ghost use Rattle.table.specs.Whole.{circuit, roles};
+ghost use Rattle.passes.specs.declared.query.Query.{Query};
+ghost use Rattle.passes.specs.Passes.{times};
+ghost use Rattle.passes.specs.Steps.{inside, ranged, readable};
+ghost use Rattle.passes.specs.Ways.{Way, made, walked};
+
+use crate::parts::Parts;
+use crate::query::Query;
+use kinds::figure::Figure;
+use text::record::{Form, Node};
+
+/// The rule of a pass: what a literal counts, what true counts, how a fork joins its branches, and
+/// what a node counts as a child of another.
+pub(crate) trait Rule<K: Figure> {
+    ghost way: { Self → Query K → Way K };
+
+    ghost child_in: { Self → Query K → ℕ → List K → ℕ → K };
+
+    ghost fits: { Self → ℕ → Type 0 } = { λ _ _. Unit {0} };
+
+    /// The value of a literal.
+    fn literal(&self, query: &Query<K>, variable: u16, on: bool) -> K
+        requires { known (length (roles query.now.table.now)) variable ≡ true }
+        ensures { result ≡ (way self.now query.now).leaf variable on };
+
+    /// The value of true.
+    fn truth(&self, query: &Query<K>) -> K
+        ensures { result ≡ (way self.now query.now).edge };
+
+    /// The value of a fork, from those of its branches.
+    fn join(&self, query: &Query<K>, variable: u16, on: K, off: K) -> K
+        ensures { result ≡ (way self.now query.now).join variable on off };
+
+    /// The value of a child.
+    fn child(&self, query: &Query<K>, parts: &Parts<K>, node: u16) -> K
+        requires fits { fits self.now parts.now.stride }
+        requires inside { inside (length parts.now.places.now) parts.now.stride node ≡ true }
+        ensures { result ≡ child_in self.now query.now parts.now.stride parts.now.places.now node };
+}
+
+impl<K: Figure> Query<'_, K> {
+    /// The product of the children's values.
+    fn product<W: Rule<K>>(&self, rule: &W, parts: &Parts<K>, children: &[u16]) -> K
+        requires fits { W.fits rule.now parts.now.stride }
+        requires inside { every (inside (length parts.now.places.now) parts.now.stride) children.now ≡ true }
+        ensures { result ≡ times K.ring (map (W.child_in rule.now self.now parts.now.stride parts.now.places.now) children.now) }
+    {
+        let mut all = K::one();
+        for child in children {
+            all = all.times(rule.child(self, parts, *child));
+        }
+        all
+    }
+
+    /// The value of a node, from the parts before it.
+    // Inlined, so that a side's variable is compared with the table's once, and not for each child.
+    #[inline(always)]
+    fn node<W: Rule<K>>(&self, rule: &W, parts: &Parts<K>, node: Node) -> K
+        requires fits { W.fits rule.now parts.now.stride }
+        requires ranged { ranged self.now.table.now.children.now node ≡ true }
+        requires readable { readable (length (roles self.now.table.now)) (length parts.now.places.now) parts.now.stride (shape self.now.table.now.children.now node) ≡ true }
+        ensures { result ≡ made K.ring (W.way rule.now self.now) (W.child_in rule.now self.now parts.now.stride parts.now.places.now) (shape self.now.table.now.children.now node) }
+    {
+        let children = self.table.children;
+        let first = node.first as usize;
+        match node.form {
+            Form::Literal { variable, on } => rule.literal(self, variable, on),
+            Form::And => {
+                self.product(rule, parts, &children[first..first + node.count as usize])
+            }
+            Form::Fork { variable } => {
+                let on = rule.child(self, parts, children[first]);
+                let off = rule.child(self, parts, children[first + 1]);
+                rule.join(self, variable, on, off)
+            }
+            Form::True => rule.truth(self),
+            Form::False => K::zero(),
+        }
+    }
+
+    /// The value of a node by its number, from the parts before it.
+    #[inline(always)]
+    pub(crate) fn node_at<W: Rule<K>>(&self, rule: &W, parts: &Parts<K>, number: usize) -> K
+        requires fits { W.fits rule.now parts.now.stride }
+        requires node { number < length self.now.table.now.nodes.now }
+        requires before { length parts.now.places.now ≡ number * parts.now.stride }
+        ensures { result ≡ made K.ring (W.way rule.now self.now) (W.child_in rule.now self.now parts.now.stride parts.now.places.now) (node (circuit self.now.table.now) number) }
+    {
+        self.node(rule, parts, self.table.nodes[number])
+    }
+
+    /// Writes the values of the nodes, in order, into the first places of `work`.
+    pub(crate) fn pass<W: Rule<K>>(&self, rule: &W, work: &mut [K])
+        requires fits { W.fits rule.now 1 }
+        requires room { length (circuit self.now.table.now) ≤ length work.old }
+        ensures { work.new ≡ upward (walked K.ring (W.way rule.now self.now) (W.child_in rule.now self.now 1)) (circuit self.now.table.now) ++ drop (length (circuit self.now.table.now)) work.old }
+    {
+        for number in 0..self.table.nodes.len() {
+            let parts = Parts {
+                places: &work[..number],
+                stride: 1,
+            };
+            work[number] = self.node_at(rule, &parts, number);
+        }
+    }
+}
