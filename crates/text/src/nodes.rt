@@ -35,6 +35,7 @@ pub(crate) fn write_numbers(line: &[u8], from: usize, store: &mut [u16], first: 
     requires { first + length (drop from (fields line.now)) ≤ length store.old }
     ensures { store.new ≡ written_at first (map number_or_zero (drop from (fields line.now))) store.old }
 {
+    // By place: the proof loses what a zip with `iter_mut` writes.
     for (i, field) in line.split(|b| *b == TAB).skip(from).enumerate() {
         store[first + i] = read_number(field).unwrap_or(0);
     }
