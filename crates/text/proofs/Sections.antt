@@ -11,7 +11,7 @@ use Rattle.text.specs.declared.progress.Progress.{Progress}
 use Rattle.text.specs.Lines.{every, printable, fields}
 use Rattle.text.specs.Format.{Said, Rooms, Sofar, listed, section_at, kind_of, is_header, is_variable, by_section, by_fields, line_says}
 use Rattle.text.specs.Steps.{sofar, rooms_of, says_in, says, Steps, Taken, HasStoresOf}
-use Rattle.text.proofs.Entries.{some_field}
+use Rattle.text.proofs.Cuts.{some_field}
 
 by_first : (rooms : Rooms) (s : Sofar) (size : ℕ) (fs : List (List ℕ)) → 1 ≤ length fs → by_fields rooms s size fs ≡ by_section rooms s size (section_at s.header s.line (length s.variables)) (kind_of (get_or fs 0 [])) (drop 1 fs)
 by_first rooms s size [] h = absurd (omega arith)

@@ -1,20 +1,15 @@
 -- What the lines leave in the stores. Assumes nothing.
-use Rattle.std.proofs.Common.{◌≡◌, ℕ, ◌+◌, ◌<◌, ◌≤◌, true, false, leb, List, [], ◌∷◌, ◌++◌, map, length, get_or, take, drop, set, Ok, Err, sym, ap, ◌∙◌, ap₂, add-zero, zero-add, arith}
+use Rattle.std.proofs.Common.{◌≡◌, ℕ, ◌+◌, ◌<◌, ◌≤◌, true, false, leb, List, [], ◌∷◌, ◌++◌, map, length, get_or, take, drop, set, Ok, Err, sym, ap, ◌∙◌, ap₂, zero-add, arith}
 use Rattle.std.specs.List.{enumerate_from}
 use Rattle.std.proofs.lemmas.List.Edits.{sets}
 use Rattle.std.proofs.lemmas.List.FromFn.{length-enumerate_from, get_or-enumerate_from}
-use Rattle.std.proofs.lemmas.List.{at_drop_more, append-nil, take-append-drop, length-append, length-drop, length-take-le, take_at, drop_at, take_more_set, drop-set-lt}
+use Rattle.std.proofs.lemmas.List.{at_drop_more, length-append, length-drop, length-take-le, take_at, drop_at, take_more_set, drop-set-lt}
 use Rattle.std.proofs.lemmas.Bool.{and_parts, leb-true, cond-true, cond-false}
 use Rattle.text.specs.declared.fault.Reason.TheVariants as reason
 use Rattle.text.specs.declared.progress.Progress.{Progress}
 use Rattle.text.specs.declared.record.Node.{Node}
 use Rattle.text.specs.Format.{number_or_zero, Said, Entry, Sofar, listed, then, provided, fitting, with_node}
 use Rattle.text.specs.Steps.{written_at, sofar, Taken}
-
--- nothing written
-pub written_none : {A : Type 0} (at : ℕ) (xs store : List A) → length xs ≡ 0 → written_at at xs store ≡ store
-written_none at [] store h = ap₂ (λ ys n. ys ++ drop n store) (append-nil (take at store)) (add-zero at) ∙ take-append-drop at store
-written_none at (x ∷ xs) store h = absurd (omega arith)
 
 -- the item n of an enumeration
 pub enumerated : {A : Type 0} (xs : List A) (n i : ℕ) (x : A) → (n < length (enumerate_from 0 xs)) × (◌≡◌ {A = ℕ × A} (i, x) (get_or (enumerate_from 0 xs) n (i, x)))

@@ -4,7 +4,7 @@ use Rattle.text.specs.declared.kind.Section.TheVariants as section
 use Rattle.text.specs.Lines.{fields}
 use Rattle.text.specs.Format.{number_or_zero, fitting}
 use Rattle.text.specs.Steps.{entry_at, says_in}
-use Rattle.text.proofs.Entries.{few_fields}
+use Rattle.text.proofs.Cuts.{few_fields}
 use Rattle.text.proofs.Sections.{refused_by}
 use Rattle.text.proofs.Stores.{node_refused, node_room, node_taken, stays_within}
 use Rattle.text.proofs.progress.Progress.take_node.Goals as goal
