@@ -1,6 +1,6 @@
 //! Records that no reader wrote.
 use crate::files::file;
-use crate::stores::{Refusal, Stores, check_answer};
+use crate::stores::{Due, Stores, check_answer};
 use std::test::Fail;
 use text::record::{Form, Node, Variables};
 
@@ -77,7 +77,7 @@ fn records(rt: HostRuntime) -> Result<(), Fail> {
 }
 
 // How many true nodes, how many options, and the refusal.
-const COUNTS: &[(usize, u8, Refusal)] = &[
+const COUNTS: &[(usize, u8, Due)] = &[
     (1, 1, (0, 0)),
     (4096, 20, (0, 0)),
     (0, 1, (4, 1)),
