@@ -1,5 +1,5 @@
 //! What the three passes answer.
-use crate::stores::Stores;
+use plants::stores::Stores;
 use kinds::figure::Figure;
 use passes::holds::Holds;
 use passes::query::Query;

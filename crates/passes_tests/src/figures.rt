@@ -1,7 +1,7 @@
 //! Figures and bounds worked out by hand.
 use crate::asking::{ask, holds_of};
-use crate::files::{PLANT, file};
-use crate::stores::Stores;
+use plants::files::{PLANT, file};
+use plants::stores::Stores;
 use kinds::value::{Load, Peak, Tally};
 use std::alloc::Global;
 use std::iter;

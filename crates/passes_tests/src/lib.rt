@@ -6,8 +6,4 @@ mod asking;
 #[cfg(test)]
 mod figures;
 #[cfg(test)]
-mod files;
-#[cfg(test)]
-mod stores;
-#[cfg(test)]
 mod worlds;

@@ -1,8 +1,8 @@
 //! The answers against all worlds, one by one.
 use crate::asking::ask;
 use crate::figures::{Due, MARK, check_tallies, tallies};
-use crate::files::file;
-use crate::stores::Stores;
+use plants::files::file;
+use plants::stores::Stores;
 use kinds::value::Tally;
 use passes::holds::{Entry, Holds};
 use std::alloc::Global;

@@ -1,12 +1,12 @@
 //! What a file is read into.
 ghost use Rattle.std.specs.Prelude.{◌≡◌, true, IfOk};
-ghost use Rattle.plants.specs.Parts.{ArePartsOf};
+ghost use Rattle.plants.specs.Parts.{ArePartsOf, AreReadInto};
 ghost use Rattle.text.specs.Format.{listed, named_printable};
 ghost use Rattle.text.specs.Lines.{every};
 
+use parts::stores::{Parts, Room};
 use std::alloc::Global;
 use std::test::Fail;
-use text::reader::read_table;
 use text::record::{Form, Node, Variables};
 use text::refusal::Refusal;
 
@@ -30,16 +30,28 @@ impl Stores {
         ensures parts { IfOk result (λ s. ArePartsOf file.now s.nodes.items s.children.items s.variables) }
         ensures names { IfOk result (λ s. every named_printable (listed s.variables) ≡ true) }
     {
-        let mut nodes = vec![in heap; BLANK; 4096]?;
-        let mut children = vec![in heap; 0; 12288]?;
-        let contents = read_table(
-            file.as_bytes(),
-            nodes.as_mut_slice(),
-            children.as_mut_slice(),
-        )
-        .map_err(|fault| Fail::new(format_args!("line {}", fault.place())))?;
-        nodes.truncate(contents.nodes as usize);
-        children.truncate(contents.children as usize);
+        let room = Room {
+            nodes: 4096,
+            children: 12288,
+            node: BLANK,
+            child: 0,
+        };
+        Stores::read_into(file, &room, heap)
+    }
+
+    /// A file's parts, from stores with this room.
+    pub fn read_into(file: &str, room: &Room, heap: Global) -> Result<Stores, Fail>
+        ensures parts { IfOk result (λ s. AreReadInto room.now file.now s.nodes.items s.children.items s.variables) }
+        ensures names { IfOk result (λ s. every named_printable (listed s.variables) ≡ true) }
+    {
+        let parts = Parts::read(heap, room, file.as_bytes())?.map_err(|fault| Fail::new(
+            format_args!("line {}", fault.place()),
+        ))?;
+        let Parts {
+            contents,
+            nodes,
+            children,
+        } = parts;
         Ok(Stores {
             nodes,
             children,

@@ -1,6 +1,6 @@
 //! Circuits, sound and spoiled.
-use crate::files::{PLANT, file};
 use crate::stores::check_file;
+use plants::files::{PLANT, file};
 use std::test::Fail;
 
 // 64 chances, and 63 behind an option.
@@ -87,14 +87,13 @@ fn sound(rt: HostRuntime) -> Result<(), Fail> {
     check_file(
         &rt,
         PLANT,
-        (0, 0),
-        &[2, 1, 3, 2, 1, 3, 3],
+        Ok(&[2, 1, 3, 2, 1, 3, 3]),
         rt.alloc(),
         &"plant K",
     )?;
     for (roles, nodes, sets) in SOUND {
         let text = file(*roles, *nodes, rt.alloc())?;
-        check_file(&rt, text.as_str(), (0, 0), *sets, rt.alloc(), nodes)?;
+        check_file(&rt, text.as_str(), Ok(*sets), rt.alloc(), nodes)?;
     }
     Ok(())
 }
@@ -253,7 +252,7 @@ const FLAWED: &[(u8, usize, &str, &str)] = &[
 fn flawed(rt: HostRuntime) -> Result<(), Fail> {
     for (number, node, roles, nodes) in FLAWED {
         let text = file(*roles, *nodes, rt.alloc())?;
-        check_file(&rt, text.as_str(), (*number, *node), &[], rt.alloc(), nodes)?;
+        check_file(&rt, text.as_str(), Err((*number, *node)), rt.alloc(), nodes)?;
     }
     Ok(())
 }

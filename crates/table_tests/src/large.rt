@@ -1,6 +1,6 @@
 //! The largest table.
-use crate::files::file;
 use crate::stores::check_file;
+use plants::files::file;
 use std::alloc::{AllocError, Global};
 use std::fmt::Write;
 use std::test::Fail;
@@ -64,8 +64,7 @@ fn largest(rt: HostRuntime) -> Result<(), Fail> {
     check_file(
         &rt,
         text.as_str(),
-        (0, 0),
-        sets.as_slice(),
+        Ok(sets.as_slice()),
         rt.alloc(),
         &"the largest",
     )
@@ -89,7 +88,7 @@ fn largest_flawed(rt: HostRuntime) -> Result<(), Fail> {
     let rootless = rootless(rt.alloc())?;
     for (number, first, more) in ROOTS {
         let text = rooted(rootless.as_str(), *first, *more, rt.alloc())?;
-        check_file(&rt, text.as_str(), (*number, 4095), &[], rt.alloc(), first)?;
+        check_file(&rt, text.as_str(), Err((*number, 4095)), rt.alloc(), first)?;
     }
     Ok(())
 }

@@ -6,8 +6,6 @@ mod asked;
 #[cfg(test)]
 mod circuits;
 #[cfg(test)]
-mod files;
-#[cfg(test)]
 mod large;
 #[cfg(test)]
 mod records;

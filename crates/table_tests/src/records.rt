@@ -1,6 +1,6 @@
 //! Records that no reader wrote.
-use crate::files::file;
-use crate::stores::{Due, Stores, check_answer};
+use crate::stores::{Due, check_answer, read};
+use plants::files::file;
 use std::test::Fail;
 use text::record::{Form, Node, Variables};
 
@@ -25,76 +25,77 @@ const OFF: Node = Node {
 const FORK: Form = Form::Fork { variable: 1 };
 
 // What a third node behind the two literals is, where its children begin and how many they are,
-// the child store, and the number of the refusal for one chance, or 0 for none.
-const CASES: &[(Form, u16, u16, &[u16], u8)] = &[
+// the child store, and the number of the refusal for one chance, if it is refused.
+const CASES: &[(Form, u16, u16, &[u16], Option<u8>)] = &[
     // an and whose children pass the end of the store
-    (Form::And, 0, 2, &[0], 8),
-    (Form::And, 1, 1, &[0], 8),
-    (Form::And, 0, 1, &[], 8),
-    (Form::And, 65535, 1, &[0, 1], 8),
-    (Form::And, 1, 65535, &[0, 1], 8),
-    (Form::And, 65535, 65535, &[0, 1], 8),
+    (Form::And, 0, 2, &[0], Some(8)),
+    (Form::And, 1, 1, &[0], Some(8)),
+    (Form::And, 0, 1, &[], Some(8)),
+    (Form::And, 65535, 1, &[0, 1], Some(8)),
+    (Form::And, 1, 65535, &[0, 1], Some(8)),
+    (Form::And, 65535, 65535, &[0, 1], Some(8)),
     // a fork whose children do
-    (FORK, 0, 2, &[0], 8),
-    (FORK, 0, 2, &[], 8),
-    (FORK, 1, 2, &[0, 1], 8),
-    (FORK, 2, 2, &[0, 1], 8),
-    (FORK, 65534, 2, &[0, 1], 8),
-    (FORK, 65535, 2, &[0, 1], 8),
+    (FORK, 0, 2, &[0], Some(8)),
+    (FORK, 0, 2, &[], Some(8)),
+    (FORK, 1, 2, &[0, 1], Some(8)),
+    (FORK, 2, 2, &[0, 1], Some(8)),
+    (FORK, 65534, 2, &[0, 1], Some(8)),
+    (FORK, 65535, 2, &[0, 1], Some(8)),
     // children that end with the store, or before
-    (Form::And, 1, 1, &[9, 0], 0),
-    (Form::And, 1, 1, &[9, 0, 9], 0),
-    (FORK, 1, 2, &[9, 0, 1], 0),
-    (FORK, 1, 2, &[9, 0, 1, 9], 0),
-    (Form::And, 1, 0, &[0], 13),
+    (Form::And, 1, 1, &[9, 0], None),
+    (Form::And, 1, 1, &[9, 0, 9], None),
+    (FORK, 1, 2, &[9, 0, 1], None),
+    (FORK, 1, 2, &[9, 0, 1, 9], None),
+    (Form::And, 1, 0, &[0], Some(13)),
     // a number in the store that no node has
-    (Form::And, 1, 1, &[0, 65535], 8),
-    (FORK, 0, 2, &[0, 65535], 8),
+    (Form::And, 1, 1, &[0, 65535], Some(8)),
+    (FORK, 0, 2, &[0, 65535], Some(8)),
 ];
 
 #[test]
 fn records(rt: HostRuntime) -> Result<(), Fail> {
     let text = file("R", "T", rt.alloc())?;
-    let variables = Stores::read(text.as_str(), rt.alloc())?.variables;
+    let variables = read(text.as_str(), rt.alloc())?.variables;
     for (form, first, count, children, number) in CASES {
         let node = Node {
             form: *form,
             first: *first,
             count: *count,
         };
-        let place = if *number == 0 { 0 } else { 2 };
         check_answer(
             &rt,
             &[ON, OFF, node],
             *children,
             &variables,
-            (*number, place),
-            &[1, 1, 1],
+            match *number {
+                Some(number) => Err((number, 2)),
+                None => Ok(&[1, 1, 1]),
+            },
             &format_args!("{first} {count}"),
         );
     }
     Ok(())
 }
 
-// How many true nodes, how many options, and the refusal.
+// How many true nodes, how many options, and the refusal, or that no node mentions anything.
 const COUNTS: &[(usize, u8, Due)] = &[
-    (1, 1, (0, 0)),
-    (4096, 20, (0, 0)),
-    (0, 1, (4, 1)),
-    (4097, 1, (4, 1)),
-    (65537, 1, (4, 1)),
-    (1, 0, (4, 1)),
-    (0, 0, (4, 1)),
-    (1, 21, (6, 22)),
-    (4096, 64, (6, 65)),
-    (0, 21, (4, 1)),
-    (4097, 64, (4, 1)),
+    (1, 1, Ok(&[])),
+    (4096, 20, Ok(&[])),
+    (0, 1, Err((4, 1))),
+    (4097, 1, Err((4, 1))),
+    (65537, 1, Err((4, 1))),
+    (1, 0, Err((4, 1))),
+    (0, 0, Err((4, 1))),
+    (1, 21, Err((6, 22))),
+    (4096, 64, Err((6, 65))),
+    (0, 21, Err((4, 1))),
+    (4097, 64, Err((4, 1))),
 ];
 
 #[test]
 fn counts(rt: HostRuntime) -> Result<(), Fail> {
     let text = file("E", "T", rt.alloc())?;
-    let option = Stores::read(text.as_str(), rt.alloc())?.variables.all[0];
+    let option = read(text.as_str(), rt.alloc())?.variables.all[0];
     for (nodes, options, due) in COUNTS {
         assert!(rt; *options <= 64);
         let variables = Variables {
@@ -113,7 +114,6 @@ fn counts(rt: HostRuntime) -> Result<(), Fail> {
             &[],
             &variables,
             *due,
-            &[],
             &format_args!("{} nodes", nodes.len()),
         );
     }

@@ -1,5 +1,5 @@
 -- Refusals, calls and answers in words, as bytes. Assumes nothing.
-use Rattle.std.specs.Prelude.{ℕ, Bool, cond, List, ◌++◌, Some, None, codes, decimal, Option}
+use Rattle.std.specs.Prelude.{ℕ, Bool, cond, List, ◌++◌, Some, None, Ok, Err, codes, decimal, Option}
 use Rattle.text.specs.declared.fault.Reason.{Reason}
 use Rattle.text.specs.declared.fault.Reason.TheVariants as reason
 use Rattle.text.specs.declared.fault.Fault.{Fault as TextFault}
@@ -14,8 +14,9 @@ use Rattle.search.specs.declared.fault.Fault.{Fault}
 use Rattle.search.specs.declared.fault.Fault.TheVariants.{Table, ShortSheet, StrayHold, NoOption, NoChance, WeightLine, Held, NotHeld, StillFree, ShortWork}
 use Rattle.search.specs.declared.call.Call.{Call}
 use Rattle.search.specs.declared.call.Call.TheVariants as call
-use Rattle.search.specs.declared.call.Answer.{Answer}
-use Rattle.search.specs.declared.call.Answer.TheVariants as answer
+use Rattle.search.specs.Day.{Answer}
+use Rattle.search.specs.declared.call.Reply.{Reply}
+use Rattle.search.specs.declared.call.Reply.TheVariants as reply
 use Rattle.search.specs.declared.found.Found.{Found}
 use Rattle.search.specs.declared.found.Selection.{Selection}
 
@@ -109,8 +110,11 @@ best_words names openings None = codes "none has a figure above 0, openings " ++
 abbrev pub found_words : List ℕ → Found Tally → List ℕ
 found_words names found = best_words names found.openings found.best
 
+abbrev pub reply_words : List ℕ → Reply Tally → List ℕ
+reply_words names reply.Done = codes "done"
+reply_words names (reply.Value figure) = decimal figure.count
+reply_words names (reply.Chosen found) = found_words names found
+
 abbrev pub answer_words : List ℕ → Answer Tally → List ℕ
-answer_words names (answer.Refused f) = refusal_words f
-answer_words names answer.Done = codes "done"
-answer_words names (answer.Value figure) = decimal figure.count
-answer_words names (answer.Chosen found) = found_words names found
+answer_words names (Ok r) = reply_words names r
+answer_words names (Err f) = refusal_words f

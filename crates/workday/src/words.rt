@@ -1,16 +1,17 @@
 //! Refusals, calls and answers in words.
-ghost use Rattle.std.specs.Prelude.{◌≡◌, IfOk, string_bytes};
-ghost use Rattle.search.specs.Faults.{fault_number};
-ghost use Rattle.workday.specs.Words.{meaning_of, reason_meaning, flaw_meaning, kind_of, table_kind, text_kind, refusal_words, side_word, call_words, answer_words, found_words};
+ghost use Rattle.std.specs.Prelude.{◌≡◌, Some};
+ghost use Rattle.workday.specs.Words.{meaning_of, reason_meaning, flaw_meaning, kind_of, refusal_words, side_word, call_words, answer_words};
 
 use kinds::value::Tally;
-use search::call::{Answer, Call};
+use search::call::{Call, Reply};
 use search::fault::Fault;
-use search::found::Found;
-use std::alloc::{AllocError, Global};
+use std::fmt;
 use table::fault::{Fault as TableFault, Flaw};
 use text::fault::{Fault as TextFault, Reason};
 use text::refusal::Refusal;
+
+/// What a call is answered.
+pub(crate) type Answer = Result<Reply<Tally>, Fault>;
 
 /// What the refusal of a line means.
 fn reason_meaning(reason: Reason) -> &'static str
@@ -41,30 +42,22 @@ fn flaw_meaning(flaw: Flaw) -> &'static str
     }
 }
 
-/// What a refusal of the reader means.
-fn text_meaning(fault: TextFault) -> &'static str
-    ensures { result.now ≡ meaning_of (Fault.Table (TableFault.Text fault)) }
-{
-    match fault {
-        TextFault::Length => "the file is empty, or longer than 65,536 bytes",
-        TextFault::Line { reason, line: _ } => reason_meaning(reason),
-    }
-}
-
 /// What a refusal means.
 fn meaning(fault: Fault) -> &'static str
     ensures { result.now ≡ meaning_of fault }
 {
     match fault {
-        Fault::Table(TableFault::Text(fault)) => text_meaning(fault),
-        Fault::Table(TableFault::Node { flaw, node: _ }) => flaw_meaning(flaw),
+        Fault::Table(TableFault::Text(TextFault::Length)) =>
+            "the file is empty, or longer than 65,536 bytes",
+        Fault::Table(TableFault::Text(TextFault::Line { reason, .. })) => reason_meaning(reason),
+        Fault::Table(TableFault::Node { flaw, .. }) => flaw_meaning(flaw),
         Fault::ShortSheet => "the sheet has too few figures",
         Fault::StrayHold => "something is held that is not an option of this plant",
-        Fault::NoOption { variable: _ } => "this is not an option",
-        Fault::NoChance { variable: _ } => "this is not a chance",
-        Fault::WeightLine { line: _ } => "what the line weighs is not a chance",
-        Fault::Held { variable: _ } => "the option is held already",
-        Fault::NotHeld { variable: _ } => "the option is not held",
+        Fault::NoOption { .. } => "this is not an option",
+        Fault::NoChance { .. } => "this is not a chance",
+        Fault::WeightLine { .. } => "what the line weighs is not a chance",
+        Fault::Held { .. } => "the option is held already",
+        Fault::NotHeld { .. } => "the option is not held",
         Fault::StillFree => "an option is still free",
         Fault::ShortWork => "the work table is too short",
     }
@@ -75,26 +68,14 @@ fn place_kind(fault: Fault) -> &'static str
     ensures { result.now ≡ kind_of fault }
 {
     match fault {
-        Fault::Table(TableFault::Text(TextFault::Line { reason: _, line: _ })) => "line",
-        Fault::Table(TableFault::Node { flaw: _, node: _ }) => "node",
-        Fault::WeightLine { line: _ } => "line",
-        Fault::NoOption { variable: _ } => "variable",
-        Fault::NoChance { variable: _ } => "variable",
-        Fault::Held { variable: _ } => "variable",
-        Fault::NotHeld { variable: _ } => "variable",
+        Fault::Table(TableFault::Text(TextFault::Line { .. })) | Fault::WeightLine { .. } => "line",
+        Fault::Table(TableFault::Node { .. }) => "node",
+        Fault::NoOption { .. }
+        | Fault::NoChance { .. }
+        | Fault::Held { .. }
+        | Fault::NotHeld { .. } => "variable",
         _ => "place",
     }
-}
-
-/// A refusal in words, with its number and its place.
-pub(crate) fn refusal_text(heap: Global, fault: Fault) -> Result<String, AllocError>
-    ensures { IfOk result (λ s. string_bytes s ≡ refusal_words fault) }
-{
-    let number = fault.number();
-    let kind = place_kind(fault);
-    let place = fault.place();
-    let words = meaning(fault);
-    format!(in heap; "refusal {number}, {kind} {place}: {words}")
 }
 
 /// The word for a side.
@@ -104,64 +85,73 @@ fn side_word(on: bool) -> &'static str
     if on { "on" } else { "off" }
 }
 
-/// A call in words. `name` is the name of the variable that it is given, if it is given one.
-pub(crate) fn call_text(heap: Global, name: &str, call: Call<Tally>) -> Result<String, AllocError>
-    ensures { IfOk result (λ s. string_bytes s ≡ call_words name.now call) }
-{
-    match call {
-        Call::Hold { variable: _, on } => {
-            let side = side_word(on);
-            format!(in heap; "Hold '{name}' {side}")
-        }
-        Call::Release { variable: _ } => format!(in heap; "Release '{name}'"),
-        Call::Weigh {
-            variable: _,
-            on,
-            off,
-        } => {
-            let on = on.count;
-            let off = off.count;
-            format!(in heap; "Weigh '{name}' {on} on and {off} off")
-        }
-        Call::Trial { variable: _, on } => {
-            let side = side_word(on);
-            format!(in heap; "Bound if '{name}' were held {side}")
-        }
-        Call::Figure => format!(in heap; "Figure of the selection held"),
-        Call::Bound => format!(in heap; "Bound on what can be reached under the holds"),
-        Call::Select => format!(in heap; "Best selection under the holds"),
+/// A refusal in words, with its number and its place.
+#[derive(Clone, Copy)]
+pub(crate) struct RefusalWords(pub Fault);
+
+impl fmt::Display for RefusalWords {
+    ghost output = { λ refusal. Some (refusal_words refusal.0) };
+
+    fn fmt<W: fmt::Write>(&self, f: &mut fmt::Formatter<W>) -> fmt::Result {
+        let fault = self.0;
+        let number = fault.number();
+        let kind = place_kind(fault);
+        let place = fault.place();
+        let words = meaning(fault);
+        write!(f, "refusal {number}, {kind} {place}: {words}")
     }
 }
 
-/// What select found in words. `names` are those of the options that are on.
-fn found_text(heap: Global, names: &str, found: Found<Tally>) -> Result<String, AllocError>
-    ensures { IfOk result (λ s. string_bytes s ≡ found_words names.now found) }
-{
-    let openings = found.openings;
-    match found.best {
-        Some(best) => {
-            let count = best.figure.count;
-            format!(in heap; "figure {count}, openings {openings}, on: {names}")
+/// A call in words, with the name of the variable that it is given, if it is given one.
+#[derive(Clone, Copy)]
+pub(crate) struct CallWords<'a> {
+    pub name: &'a str,
+    pub call: Call<Tally>,
+}
+
+impl<'a> fmt::Display for CallWords<'a> {
+    ghost output = { λ asked. Some (call_words asked.name.now asked.call) };
+
+    fn fmt<W: fmt::Write>(&self, f: &mut fmt::Formatter<W>) -> fmt::Result {
+        let name = self.name;
+        match self.call {
+            Call::Hold { on, .. } => write!(f, "Hold '{name}' {}", side_word(on)),
+            Call::Release { .. } => write!(f, "Release '{name}'"),
+            Call::Weigh { on, off, .. } => write!(f, "Weigh '{name}' {on} on and {off} off"),
+            Call::Trial { on, .. } => write!(f, "Bound if '{name}' were held {}", side_word(on)),
+            Call::Figure => write!(f, "Figure of the selection held"),
+            Call::Bound => write!(f, "Bound on what can be reached under the holds"),
+            Call::Select => write!(f, "Best selection under the holds"),
         }
-        None => format!(in heap; "none has a figure above 0, openings {openings}"),
     }
 }
 
-/// An answer in words. `names` are those of the options that are on in a selection that it gives.
-pub(crate) fn answer_text(
-    heap: Global,
-    names: &str,
-    answer: Answer<Tally>,
-) -> Result<String, AllocError>
-    ensures { IfOk result (λ s. string_bytes s ≡ answer_words names.now answer) }
-{
-    match answer {
-        Answer::Refused(fault) => refusal_text(heap, fault),
-        Answer::Done => format!(in heap; "done"),
-        Answer::Value(figure) => {
-            let count = figure.count;
-            format!(in heap; "{count}")
+/// An answer in words, with the names of the options that are on in a selection that it gives.
+#[derive(Clone, Copy)]
+pub(crate) struct AnswerWords<'a> {
+    pub names: &'a str,
+    pub answer: Answer,
+}
+
+impl<'a> fmt::Display for AnswerWords<'a> {
+    ghost output = { λ said. Some (answer_words said.names.now said.answer) };
+
+    fn fmt<W: fmt::Write>(&self, f: &mut fmt::Formatter<W>) -> fmt::Result {
+        match self.answer {
+            Err(fault) => write!(f, "{}", RefusalWords(fault)),
+            Ok(Reply::Done) => write!(f, "done"),
+            Ok(Reply::Value(figure)) => write!(f, "{figure}"),
+            Ok(Reply::Chosen(found)) => {
+                let openings = found.openings;
+                let names = self.names;
+                match found.best {
+                    Some(best) => {
+                        let figure = best.figure;
+                        write!(f, "figure {figure}, openings {openings}, on: {names}")
+                    }
+                    None => write!(f, "none has a figure above 0, openings {openings}"),
+                }
+            }
         }
-        Answer::Chosen(found) => found_text(heap, names, found),
     }
 }
