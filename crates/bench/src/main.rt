@@ -13,6 +13,7 @@ use std::time::Instant;
 use std::{env, io};
 use table::check::check;
 use table::table::Table;
+use text::refusal::Refusal;
 
 /// How many options are held in the runs.
 const HELD: &[u16] = &[0, 10];

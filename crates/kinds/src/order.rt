@@ -4,6 +4,8 @@ ghost use Rattle.kinds.specs.Semiring.{greater as greater_of, lesser as lesser_o
 
 use crate::figure::Figure;
 
+// Not `Ord::max` and `min`: figures rank by a preorder, in which two may rank alike and differ.
+
 /// `b` if `a` ranks below `b`, else `a`.
 pub fn greater<K: Figure>(a: K, b: K) -> K
     ensures { result ≡ greater_of K.ring a b }

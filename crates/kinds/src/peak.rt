@@ -17,35 +17,21 @@ impl Figure for Peak {
         Peak::Load(Load { watts: 0 })
     }
 
+    #[tactic(auto, using(crate::proofs::Greatest::max_sum))]
     fn plus(self, other: Peak) -> Peak {
-        match self {
-            Peak::Impossible => other,
-            Peak::Load(a) => match other {
-                Peak::Impossible => self,
-                Peak::Load(b) => if a.watts < b.watts { other } else { self },
-            },
-        }
+        self.max(other)
     }
 
     fn times(self, other: Peak) -> Peak {
-        match self {
-            Peak::Impossible => Peak::Impossible,
-            Peak::Load(a) => match other {
-                Peak::Impossible => Peak::Impossible,
-                Peak::Load(b) => Peak::Load(Load {
-                    watts: a.watts.saturating_add(b.watts),
-                }),
-            },
+        match (self, other) {
+            (Peak::Load(a), Peak::Load(b)) => Peak::Load(Load {
+                watts: a.watts.saturating_add(b.watts),
+            }),
+            _ => Peak::Impossible,
         }
     }
 
     fn no_higher(self, other: Peak) -> bool {
-        match self {
-            Peak::Impossible => true,
-            Peak::Load(a) => match other {
-                Peak::Impossible => false,
-                Peak::Load(b) => a.watts <= b.watts,
-            },
-        }
+        self <= other
     }
 }

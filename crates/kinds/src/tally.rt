@@ -30,6 +30,6 @@ impl Figure for Tally {
     }
 
     fn no_higher(self, other: Tally) -> bool {
-        self.count <= other.count
+        self <= other
     }
 }

@@ -1,14 +1,15 @@
 //! Figures as text.
-ghost use Rattle.std.specs.Prelude.{◌≡◌, ℕ, List, IfOk, Some, string_bytes, Option};
-ghost use Rattle.kinds.specs.Texts.{Exact, tally_reading, tally_text, tally_exact, load_reading, peak_reading, peak_text, peak_exact};
+ghost use Rattle.std.specs.Prelude.{◌≡◌, ℕ, List, IfOk, Some, string_bytes, Option, refl};
+ghost use Rattle.kinds.specs.Texts.{Exact, tally_reading, tally_text, tally_exact, load_reading, load_text, peak_reading, peak_text, peak_exact};
 
 use crate::figure::Figure;
 use crate::value::{Load, Peak, Tally};
 use std::alloc::{AllocError, Global};
+use std::fmt;
 use text::numeral::read_numeral;
 
 /// A kind of figure with a text form: each figure has exactly one text.
-pub trait Written: Figure {
+pub trait Written: Figure + fmt::Display {
     ghost reading: { List ℕ → Option Self };
 
     ghost text: { Self → List ℕ };
@@ -21,7 +22,40 @@ pub trait Written: Figure {
 
     /// The figure's text.
     fn write(self, heap: Global) -> Result<String, AllocError>
-        ensures { IfOk result (λ s. string_bytes s ≡ text self) };
+        ensures { IfOk result (λ s. string_bytes s ≡ text self) }
+    {
+        self.to_string(heap)
+    }
+
+    // What `{}` writes of a figure is its text.
+    ghost shown: { (f : Self) → Self.output f ≡ Some (text f) };
+}
+
+impl fmt::Display for Tally {
+    ghost output = { λ t. Some (tally_text t) };
+
+    fn fmt<W: fmt::Write>(&self, f: &mut fmt::Formatter<W>) -> fmt::Result {
+        write!(f, "{}", self.count)
+    }
+}
+
+impl fmt::Display for Load {
+    ghost output = { λ a. Some (load_text a) };
+
+    fn fmt<W: fmt::Write>(&self, f: &mut fmt::Formatter<W>) -> fmt::Result {
+        write!(f, "{}", self.watts)
+    }
+}
+
+impl fmt::Display for Peak {
+    ghost output = { λ p. Some (peak_text p) };
+
+    fn fmt<W: fmt::Write>(&self, f: &mut fmt::Formatter<W>) -> fmt::Result {
+        match self {
+            Peak::Impossible => write!(f, "-"),
+            Peak::Load(load) => write!(f, "{load}"),
+        }
+    }
 }
 
 /// A number from 0 to the highest `u64`, with no leading zero.
@@ -37,10 +71,7 @@ impl Written for Tally {
         Some(Tally { count })
     }
 
-    fn write(self, heap: Global) -> Result<String, AllocError> {
-        let count = self.count;
-        format!(in heap; "{count}")
-    }
+    ghost shown = { λ _. refl };
 }
 
 /// `-` for no way, or a number from 0 to the highest `u32`, with no leading zero.
@@ -53,21 +84,13 @@ impl Written for Peak {
 
     fn read(field: &[u8]) -> Option<Peak> {
         if field == b"-".as_slice() {
-            return Some(Peak::Impossible);
+            Some(Peak::Impossible)
+        } else {
+            read_load(field).map(Peak::Load)
         }
-        let load = read_load(field)?;
-        Some(Peak::Load(load))
     }
 
-    fn write(self, heap: Global) -> Result<String, AllocError> {
-        match self {
-            Peak::Impossible => String::from_str(heap, "-"),
-            Peak::Load(load) => {
-                let watts = load.watts;
-                format!(in heap; "{watts}")
-            }
-        }
-    }
+    ghost shown = { λ _. refl };
 }
 
 /// The load that `field` writes, if it has the form.

@@ -3,6 +3,7 @@ use std::alloc::Global;
 use std::test::Fail;
 use text::reader::read_table;
 use text::record::{Form, Node, Variables};
+use text::refusal::Refusal;
 
 const BLANK: Node = Node {
     form: Form::And,

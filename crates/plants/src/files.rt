@@ -31,28 +31,18 @@ A 14 31";
 
 fn variable_lines(roles: &str, heap: Global) -> Result<String, AllocError> {
     let mut lines = String::new(heap);
-    let mut number = 0usize;
-    for role in roles.chars() {
-        number = number.wrapping_add(1);
-        let line = format!(in heap; "V\t{number}\t{role}\tname {number}\n")?;
-        lines.push_str(line.as_str())?;
+    for (number, role) in (1usize..).zip(roles.chars()) {
+        write!(lines, "V\t{number}\t{role}\tname {number}\n")?;
     }
     Ok(lines)
 }
 
-// How many nodes and children there are.
+// How many nodes and children there are: behind an L or an O the first number is a variable's.
 fn counts(nodes: &str) -> (usize, usize) {
-    let mut count = 1usize;
-    let mut children = 0usize;
-    for letter in nodes.chars() {
-        match letter {
-            '/' => count = count.wrapping_add(1),
-            ' ' => children = children.wrapping_add(1),
-            'L' | 'O' => children = children.wrapping_sub(1),
-            _ => {}
-        }
-    }
-    (count, children)
+    let count = nodes.split('/').count();
+    let numbers = nodes.chars().filter(|c| *c == ' ').count();
+    let variables = nodes.chars().filter(|c| matches!(*c, 'L' | 'O')).count();
+    (count, numbers.wrapping_sub(variables))
 }
 
 /// The file with variables of these roles (a letter for each) and with these nodes: a space for a

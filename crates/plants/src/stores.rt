@@ -8,6 +8,7 @@ use std::alloc::Global;
 use std::test::Fail;
 use text::reader::read_table;
 use text::record::{Form, Node, Variables};
+use text::refusal::Refusal;
 
 const BLANK: Node = Node {
     form: Form::And,
@@ -31,21 +32,18 @@ impl Stores {
     {
         let mut nodes = vec![in heap; BLANK; 4096]?;
         let mut children = vec![in heap; 0; 12288]?;
-        match read_table(
+        let contents = read_table(
             file.as_bytes(),
             nodes.as_mut_slice(),
             children.as_mut_slice(),
-        ) {
-            Ok(contents) => {
-                nodes.truncate(contents.nodes as usize);
-                children.truncate(contents.children as usize);
-                Ok(Stores {
-                    nodes,
-                    children,
-                    variables: contents.variables,
-                })
-            }
-            Err(fault) => Err(Fail::new(format_args!("line {}", fault.place()))),
-        }
+        )
+        .map_err(|fault| Fail::new(format_args!("line {}", fault.place())))?;
+        nodes.truncate(contents.nodes as usize);
+        children.truncate(contents.children as usize);
+        Ok(Stores {
+            nodes,
+            children,
+            variables: contents.variables,
+        })
     }
 }

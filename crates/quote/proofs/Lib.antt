@@ -1,3 +1,1 @@
 pub mod Listing
-pub mod Tabled
-pub mod Reporting

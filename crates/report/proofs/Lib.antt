@@ -1,3 +1,2 @@
 pub mod Naming
 pub mod Planning
-pub mod Filing

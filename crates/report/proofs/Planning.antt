@@ -1,82 +1,125 @@
--- What is printed for a file, from what is printed for each answer on the way. Assumes nothing.
-use Rattle.std.proofs.Common.{◌≡◌, ℕ, List, [], ◌∷◌, length, replicate, IfOk, Ok, Err, Option, Result, sym, ap, ◌∙◌, subst}
-use Rattle.std.proofs.lemmas.Result.{IfOk-weaker}
+-- What is printed for a table and its weight text, by the answers on the way. Assumes nothing.
+use Rattle.std.proofs.Common.{◌≡◌, ℕ, List, [], ◌∷◌, length, drop, replicate, Ok, Err, Option, Result, String, sym, ap, ap₂, ◌∙◌, subst}
+use Rattle.std.specs.Result.{IsErr, IsErrAnd}
+use Rattle.std.specs.declared.alloc.Global.{Global}
 use Rattle.kinds.specs.Semiring.{Semiring}
 use Rattle.text.specs.Format.{listed}
+use Rattle.text.specs.Printed.{Lines, text_of}
+use Rattle.text.specs.declared.record.Contents.{Contents}
 use Rattle.text.specs.declared.record.Node.{Node}
-use Rattle.text.specs.declared.record.Variables.{Variables}
+use Rattle.parts.specs.Parts.{ArePartsOf, largest, reading as read_from, nodes_of, children_of}
+use Rattle.parts.specs.declared.stores.Parts.{Parts}
 use Rattle.table.specs.Check.{check_says}
-use Rattle.table.specs.Circuit.{Shape}
-use Rattle.table.specs.Nodes.{shapes, roles_of}
+use Rattle.table.specs.Whole.{circuit}
 use Rattle.table.specs.declared.mentions.Mentions.{Mentions}
+use Rattle.table.specs.declared.fault.Fault as table
+use Rattle.table.specs.declared.fault.Fault.TheVariants.{Text}
+use Rattle.table.specs.declared.table.Table as table_struct
+use Rattle.search.specs.declared.fault.Fault.TheVariants.{Table}
+use Rattle.text.specs.declared.record.Variables.{Variables}
+use Rattle.table.specs.Circuit.{Shape}
+use Rattle.table.specs.Nodes.{roles_of, shapes}
 use Rattle.passes.specs.Holding.{Entries}
 use Rattle.passes.specs.Passes.{bound}
 use Rattle.search.specs.Orders.{Order}
 use Rattle.search.specs.Select.{select}
 use Rattle.search.specs.Study.{answered, bound_tests}
+use Rattle.search.specs.Weights.{Reading, weights_say}
 use Rattle.search.specs.declared.fault.Fault.{Fault}
-use Rattle.search.specs.declared.fault.Fault.TheVariants.{Table}
 use Rattle.search.specs.declared.found.Found.{Found}
-use Rattle.report.specs.Report.{Lines, text_of, refusal, PlainNames, report_of}
-use Rattle.report.specs.Plant.{sheet_room, work_room, no_holds, unless_refused, asked, weighed, checked}
+use Rattle.report.specs.Report.{refusal, report_of}
+use Rattle.report.specs.Plant.{no_holds, sheet_room, work_room, unless_refused, asked, weighed, checked, plant_report}
+use Rattle.report.specs.Stops.{Says}
+use Rattle.report.specs.declared.stop.Stop.{Stop}
+use Rattle.report.specs.declared.stop.Stop.TheVariants.{Refused, NoMemory}
 
-module _ {X Y : Type 0} (bytes : X → List ℕ) (r : Result X Y) where
-  abbrev pub Prints : Type 0 → Lines → Type 0
-  Prints P ls = IfOk r (λ s. P → bytes s ≡ text_of ls)
+-- a refusal that `?` hands on
+pub refused_says : (P : Type 0) (ls : Lines) (f : Fault) (r : Result (String Global) Stop) → IsErr r × IsErrAnd r (λ s. s ≡ Refused f) → ls ≡ refusal f ∷ [] → Says P ls r
+refused_says P ls f (Ok s) h e = absurd (cc h.0)
+refused_says P ls f (Err s) h e = let Q : Stop → Type 0 = λ t. Says P ls (Err t) in subst Q (sym h.1) e
 
-  abbrev pub Refuses : Fault → Type 0
-  Refuses f = IfOk r (λ s. bytes s ≡ text_of (refusal f ∷ []))
+-- what follows an answer
 
-  module _ {A E : Type 0} (P : Type 0) (wrap : E → Fault) (answer : Result A E) (next : A → Lines) where
-    pub passed : (a : A) → Ok a ≡ answer → Prints P (next a) → Prints P (unless_refused wrap answer next)
-    passed a is printed = let Q : Result A E → Type 0 = λ o. Prints P (unless_refused wrap o next) in subst Q is printed
+module _ {A E : Type 0} (wrap : E → Fault) (answer : Result A E) (next : A → Lines) where
+  pub passed : (a : A) → Ok a ≡ answer → unless_refused wrap answer next ≡ next a
+  passed a is = ap (λ o. unless_refused wrap o next) (sym is)
 
-    pub stopped : (e : E) → Err e ≡ answer → Refuses (wrap e) → Prints P (unless_refused wrap answer next)
-    stopped e is printed =
-        let Q : Result A E → Type 0 = λ o. Prints P (unless_refused wrap o next) in
-        subst Q is (IfOk-weaker r _ _ (λ s h _. h) printed)
+  pub stopped : (e : E) → Err e ≡ answer → unless_refused wrap answer next ≡ refusal (wrap e) ∷ []
+  stopped e is = ap (λ o. unless_refused wrap o next) (sym is)
 
-  module _ {F : Type 0} (R : Semiring F) (text : F → List ℕ) (pick : Order F) where
-    -- bound and select, with holds that are none
+module _ {F : Type 0} (R : Semiring F) (text : F → List ℕ) (pick : Order F) (vs : Variables) (ss : List Shape) where
+  -- bound and select, with holds that are none
 
-    module _ (size : ℕ) (vs : Variables) (ss : List Shape) (sheet : List F) (h : Entries) (new : h ≡ no_holds) where
-      abbrev bound_says : ℕ → Entries → Result F Fault
-      bound_says n e = answered (bound_tests (roles_of vs) ss (length sheet) n e) (bound R (roles_of vs) sheet ss e)
+  module _ (size : ℕ) (sheet : List F) (h : Entries) (new : h ≡ no_holds) where
+    abbrev bound_says : ℕ → Entries → Result F Fault
+    bound_says n e = answered (bound_tests (roles_of vs) ss (length sheet) n e) (bound R (roles_of vs) sheet ss e)
 
-      abbrev select_says : ℕ → Entries → Result (Found F) Fault
-      select_says n e = answered (bound_tests (roles_of vs) ss (length sheet) n e) (select R pick (roles_of vs) ss sheet e)
+    abbrev select_says : ℕ → Entries → Result (Found F) Fault
+    select_says n e = answered (bound_tests (roles_of vs) ss (length sheet) n e) (select R pick (roles_of vs) ss sheet e)
 
-      abbrev selected_lines : F → Lines
-      selected_lines most = unless_refused (λ f. f) (select_says size no_holds) (report_of text (listed vs) most)
+    abbrev selected_lines : F → Lines
+    selected_lines most = unless_refused (λ f. f) (select_says size no_holds) (report_of text (listed vs) most)
 
-      abbrev Asked : Type 0
-      Asked = Prints (PlainNames (listed vs)) (asked R text pick size vs ss sheet)
+    module _ (n : ℕ) (same : n ≡ size) where
+      pub unbounded : (f : Fault) → Err f ≡ bound_says n h → asked R text pick size vs ss sheet ≡ refusal f ∷ []
+      unbounded f is = stopped (λ e. e) (bound_says size no_holds) selected_lines f (is ∙ ap (λ k. bound_says k h) same ∙ ap (bound_says size) new)
 
-      pub unbounded : (f : Fault) → Err f ≡ bound_says size h → Refuses f → Asked
-      unbounded f is = stopped (PlainNames (listed vs)) (λ e. e) (bound_says size no_holds) selected_lines f (is ∙ ap (bound_says size) new)
+      module _ (most : F) (is : Ok most ≡ bound_says n h) (k : ℕ) (kept : k ≡ size) where
+        bounded : asked R text pick size vs ss sheet ≡ selected_lines most
+        bounded = passed (λ e. e) (bound_says size no_holds) selected_lines most (is ∙ ap (λ j. bound_says j h) same ∙ ap (bound_says size) new)
 
-      module _ (most : F) (is : Ok most ≡ bound_says size h) (n : ℕ) (same : n ≡ size) where
-        bounded : Prints (PlainNames (listed vs)) (selected_lines most) → Asked
-        bounded = passed (PlainNames (listed vs)) (λ e. e) (bound_says size no_holds) selected_lines most (is ∙ ap (bound_says size) new)
+        pub unselected : (f : Fault) → Err f ≡ select_says k h → asked R text pick size vs ss sheet ≡ refusal f ∷ []
+        unselected f got =
+            bounded ∙ stopped (λ e. e) (select_says size no_holds) (report_of text (listed vs) most) f (got ∙ ap (λ j. select_says j h) kept ∙ ap (select_says size) new)
 
-        pub unselected : (f : Fault) → Err f ≡ select_says n h → Refuses f → Asked
-        unselected f got printed =
-            bounded (stopped (PlainNames (listed vs)) (λ e. e) (select_says size no_holds) (report_of text (listed vs) most) f
-            (got ∙ ap (λ k. select_says k h) same ∙ ap (select_says size) new) printed)
+        pub selected : (found : Found F) → Ok found ≡ select_says k h → asked R text pick size vs ss sheet ≡ report_of text (listed vs) most found
+        selected found got =
+            bounded ∙ passed (λ e. e) (select_says size no_holds) (report_of text (listed vs) most) found (got ∙ ap (λ j. select_says j h) kept ∙ ap (select_says size) new)
 
-        pub selected : (found : Found F) → Ok found ≡ select_says n h → Prints (PlainNames (listed vs)) (report_of text (listed vs) most found) → Asked
-        selected found got printed =
-            bounded (passed (PlainNames (listed vs)) (λ e. e) (select_says size no_holds) (report_of text (listed vs) most) found
-            (got ∙ ap (λ k. select_says k h) same ∙ ap (select_says size) new) printed)
+  -- the weight text, read into a sheet of so many zeros
 
-    -- a table that the check accepts, with its stores
+  module _ (reading : List ℕ → Option F) (size : ℕ) (zeros start : List F) (blank : start ≡ zeros) (weights : List ℕ) where
+    abbrev read_into : List F → Reading F
+    read_into sheet = weights_say reading (roles_of vs) R.one sheet weights
 
-    pub table_printed : (reading : List ℕ → Option F) (vs vs' : Variables) (ns : List Node) (cs weights : List ℕ) (ss : List Shape) (m : Mentions) (size : ℕ) (sheet : List F) → check_says vs ns cs ≡ Ok m → vs' ≡ vs → ss ≡ shapes cs ns → size ≡ work_room → sheet ≡ replicate sheet_room R.zero → Prints (PlainNames (listed vs')) (weighed R text pick reading size vs' ss sheet weights) → Prints (PlainNames (listed vs)) (checked R text pick reading vs ns cs weights)
-    table_printed reading vs vs' ns cs weights ss m size sheet ok ev es en ez printed =
-        let V : Variables → Type 0 = λ w. Prints (PlainNames (listed w)) (weighed R text pick reading size w ss sheet weights) in
-        let S : List Shape → Type 0 = λ w. Prints (PlainNames (listed vs)) (weighed R text pick reading size vs w sheet weights) in
-        let N : ℕ → Type 0 = λ n. Prints (PlainNames (listed vs)) (weighed R text pick reading n vs (shapes cs ns) sheet weights) in
-        let Z : List F → Type 0 = λ z. Prints (PlainNames (listed vs)) (weighed R text pick reading work_room vs (shapes cs ns) z weights) in
-        passed (PlainNames (listed vs)) Table (check_says vs ns cs)
-        (λ _. weighed R text pick reading work_room vs (shapes cs ns) (replicate sheet_room R.zero) weights) m (sym ok)
-        (subst Z ez (subst N en (subst S es (subst V ev printed))))
+    pub unread : (f : Fault) → Err f ≡ (read_into start).answer → weighed R text pick reading size vs ss zeros weights ≡ refusal f ∷ []
+    unread f is = stopped (λ e. e) (read_into zeros).answer (λ _. asked R text pick size vs ss (read_into zeros).sheet) f (is ∙ ap (λ s. (read_into s).answer) blank)
+
+    pub read : Ok tt ≡ (read_into start).answer → (sheet : List F) → sheet ≡ (read_into start).sheet → weighed R text pick reading size vs ss zeros weights ≡ asked R text pick size vs ss sheet
+    read is sheet left =
+        passed (λ e. e) (read_into zeros).answer (λ _. asked R text pick size vs ss (read_into zeros).sheet) tt (is ∙ ap (λ s. (read_into s).answer) blank)
+        ∙ ap (asked R text pick size vs ss) (sym (left ∙ ap (λ s. (read_into s).sheet) blank))
+
+-- a file whose parts are accepted
+
+-- under what is known of the names
+pub says_of : (P : Type 0) (ls ms : Lines) (r : Result (String Global) Stop) → P → ms ≡ ls → Says P ls r → Says (Unit {0}) ms r
+says_of P ls ms (Ok s) p e h = λ _. h p ∙ ap text_of (sym e)
+says_of P ls ms (Err (Refused f)) p e h = e ∙ h
+says_of P ls ms (Err (NoMemory m)) p e h = tt
+
+module _ {F : Type 0} (R : Semiring F) (text : F → List ℕ) (pick : Order F) (reading : List ℕ → Option F) (file : List ℕ) (p : Parts) (a : ArePartsOf largest file p) where
+  abbrev rest : Contents → Lines
+  rest c = checked R text pick reading c.variables (nodes_of largest file c) (children_of largest file c) (drop c.weights file)
+
+  read_file : plant_report R text pick reading file ≡ checked R text pick reading p.contents.variables p.nodes.items p.children.items (drop p.contents.weights file)
+  read_file =
+      passed (λ f. Table (Text f)) (read_from largest file).answer rest p.contents (sym a.is_accepted)
+      ∙ ap₂ (λ ns cs. checked R text pick reading p.contents.variables ns cs (drop p.contents.weights file)) (sym a.nodes_are) (sym a.children_are)
+
+  module _ (ns : List Node) (cs : List ℕ) (en : ns ≡ p.nodes.items) (ec : cs ≡ p.children.items) where
+    abbrev next : Mentions → Lines
+    next m = weighed R text pick reading work_room p.contents.variables (shapes p.children.items p.nodes.items) (replicate sheet_room R.zero) (drop p.contents.weights file)
+
+    pub unchecked : (f : table.Fault) → check_says p.contents.variables ns cs ≡ Err f → plant_report R text pick reading file ≡ refusal (Table f) ∷ []
+    unchecked f e =
+        read_file ∙ stopped Table (check_says p.contents.variables p.nodes.items p.children.items) next f (sym e ∙ ap₂ (check_says p.contents.variables) en ec)
+
+    pub checked_file : (m : Mentions) (t : table_struct.Table) (weights : List ℕ) → t.nodes.now ≡ ns → t.children.now ≡ cs → t.variables ≡ p.contents.variables → check_says p.contents.variables ns cs ≡ Ok m
+        → weights ≡ drop p.contents.weights file
+        → plant_report R text pick reading file ≡ weighed R text pick reading work_room t.variables (circuit t) (replicate sheet_room R.zero) weights
+    checked_file m t weights tn tc tv e w =
+        read_file
+        ∙ passed Table (check_says p.contents.variables p.nodes.items p.children.items) next m (sym e ∙ ap₂ (check_says p.contents.variables) en ec)
+        ∙ ap₂ (λ vs ss. weighed R text pick reading work_room vs ss (replicate sheet_room R.zero) (drop p.contents.weights file)) (sym tv) (ap₂ shapes (sym (tc ∙ ec)) (sym (tn ∙ en)))
+        ∙ ap (weighed R text pick reading work_room t.variables (circuit t) (replicate sheet_room R.zero)) (sym w)

@@ -1,8 +1,8 @@
 -- The text that a program prints for a plant's file: a table file with a weight text behind it. Assumes nothing.
-use Rattle.std.specs.Prelude.{ℕ, List, [], ◌∷◌, length, take, drop, replicate, Ok, Err, Option, Result}
+use Rattle.std.specs.Prelude.{ℕ, List, [], ◌∷◌, length, drop, replicate, Ok, Err, Option, Result}
 use Rattle.kinds.specs.Semiring.{Semiring}
-use Rattle.text.specs.Format.{listed, Rooms, file_says, overwritten}
-use Rattle.text.specs.declared.record.Form.TheVariants.{False}
+use Rattle.text.specs.Format.{listed}
+use Rattle.text.specs.Printed.{Lines}
 use Rattle.text.specs.declared.record.Node.{Node}
 use Rattle.text.specs.declared.record.Variables.{Variables}
 use Rattle.table.specs.Check.{check_says}
@@ -18,27 +18,16 @@ use Rattle.search.specs.Study.{answered, bound_tests}
 use Rattle.search.specs.Weights.{weights_say}
 use Rattle.search.specs.declared.fault.Fault.{Fault}
 use Rattle.search.specs.declared.fault.Fault.TheVariants.{Table}
-use Rattle.report.specs.Report.{Lines, refusal, report_of}
+use Rattle.parts.specs.Parts.{largest, reading as read_from, nodes_of, children_of}
+use Rattle.report.specs.Report.{refusal, report_of}
 
--- The stores, before they are written.
-
-abbrev pub node_room : ℕ
-node_room = 4096
-
-abbrev pub child_room : ℕ
-child_room = 12288
+-- the figures of the sheet, and of the work table
 
 abbrev pub sheet_room : ℕ
 sheet_room = 128
 
 abbrev pub work_room : ℕ
 work_room = 4096
-
-abbrev pub rooms : Rooms
-rooms = record { nodes = node_room; children = child_room }
-
-abbrev pub unused : Node
-unused = record { form = False; first = 0; count = 0 }
 
 abbrev pub no_holds : Entries
 no_holds = replicate 64 Free
@@ -73,8 +62,5 @@ module _ {F : Type 0} (R : Semiring F) (text : F → List ℕ) (pick : Order F) 
     -- for a file
     abbrev pub plant_report : List ℕ → Lines
     plant_report file =
-        unless_refused (λ f. Table (Text f)) (file_says rooms file).answer (λ c.
-        checked c.variables
-        (take c.nodes (overwritten (file_says rooms file).nodes (replicate node_room unused)))
-        (take c.children (overwritten (file_says rooms file).children (replicate child_room 0)))
-        (drop c.weights file))
+        unless_refused (λ f. Table (Text f)) (read_from largest file).answer (λ c.
+        checked c.variables (nodes_of largest file c) (children_of largest file c) (drop c.weights file))

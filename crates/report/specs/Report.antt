@@ -1,6 +1,7 @@
 -- The text that a program prints, as bytes. Assumes nothing.
-use Rattle.std.specs.Prelude.{ℕ, ◌+◌, ◌<◌, cond, ◌&&◌, List, [], ◌∷◌, ◌++◌, length, Some, None, codes, IsAscii, decimal, Option, slice_index_or}
+use Rattle.std.specs.Prelude.{ℕ, ◌+◌, cond, ◌&&◌, List, [], ◌∷◌, ◌++◌, Some, None, codes, decimal, Option}
 use Rattle.text.specs.Format.{spelled}
+use Rattle.text.specs.Printed.{Lines, refusal_fields}
 use Rattle.text.specs.declared.record.Variable.{Variable}
 use Rattle.table.specs.Nodes.{is_option_role}
 use Rattle.passes.specs.Holding.{Entries, selected}
@@ -9,23 +10,6 @@ use Rattle.search.specs.declared.fault.Fault.{Fault}
 use Rattle.search.specs.declared.found.Found.{Found}
 use Rattle.search.specs.declared.found.Selection.{Selection}
 
--- a text is a list of lines, a line a list of fields
-abbrev pub Lines : Type 0
-Lines = List (List (List ℕ))
-
--- the fields behind the first, each behind a tab, then the end of the line, then what follows
-abbrev pub fields_onto : List (List ℕ) → List ℕ → List ℕ
-fields_onto [] more = 10 ∷ more
-fields_onto (f ∷ fs) more = 9 ∷ (f ++ fields_onto fs more)
-
-abbrev pub line_onto : List (List ℕ) → List ℕ → List ℕ
-line_onto [] more = 10 ∷ more
-line_onto (f ∷ fs) more = f ++ fields_onto fs more
-
-abbrev pub text_of : Lines → List ℕ
-text_of [] = []
-text_of (l ∷ ls) = line_onto l (text_of ls)
-
 -- fields alone, each behind a tab
 abbrev pub behind_tabs : List (List ℕ) → List ℕ
 behind_tabs [] = []
@@ -33,11 +17,7 @@ behind_tabs (f ∷ fs) = 9 ∷ (f ++ behind_tabs fs)
 
 -- for a refusal: X, its number and its place
 abbrev pub refusal : Fault → List (List ℕ)
-refusal f = codes "X" ∷ decimal (fault_number f) ∷ decimal (fault_place f) ∷ []
-
--- every name of these variables is ASCII, as the reader sees to
-abbrev pub PlainNames : List Variable → Type 0
-PlainNames vs = (k : ℕ) (d : Variable) → k < length vs → IsAscii (spelled (slice_index_or vs k d).name)
+refusal f = refusal_fields (fault_number f) (fault_place f)
 
 -- the names of those options that are held on, by rising number, where the first variable in the list has this number
 abbrev pub names_on : Entries → ℕ → List Variable → List (List ℕ)

@@ -3,4 +3,4 @@
 
 pub mod answer;
 pub mod plant;
-pub mod refusal;
+pub mod stop;

@@ -1,34 +1,25 @@
 //! What a program prints for a plant's file.
-ghost use Rattle.std.specs.Prelude.{◌≡◌, length, take, drop, replicate, IfOk, Ok, string_bytes};
+ghost use Rattle.std.specs.Prelude.{◌≡◌, replicate, IfOk, string_bytes};
 ghost use Rattle.text.specs.Format.{listed};
-ghost use Rattle.table.specs.Check.{check_says};
+ghost use Rattle.text.specs.Printed.{text_of};
+ghost use Rattle.text.specs.Shown.{PlainNames};
 ghost use Rattle.table.specs.Whole.{circuit};
-ghost use Rattle.report.specs.Report.{text_of, PlainNames};
-ghost use Rattle.report.specs.Plant.{asked, weighed, checked, plant_report};
+ghost use Rattle.report.specs.Plant.{sheet_room, work_room, weighed, plant_report};
+ghost use Rattle.report.specs.Stops.{Says};
 
 use crate::answer::report_text;
-use crate::refusal::refusal_line;
+use crate::stop::Stop;
 use kinds::figure::Figure;
 use kinds::written::Written;
+use parts::stores::{Parts, Room};
 use passes::holds::Holds;
 use passes::sheet::Sheet;
 use search::asking::{bound, select};
-use search::fault::Fault;
 use search::order::BranchingOrder;
 use search::weights::read_weights;
 use std::alloc::{AllocError, Global};
-use table::check::check;
-use table::fault::Fault as TableFault;
-use table::mentions::Mentions;
 use table::table::Table;
-use text::reader::read_table;
-use text::record::{Form, Node, Variables};
-
-/// How many node records there is room for.
-const NODE_ROOM: usize = 4096;
-
-/// How many child numbers there is room for.
-const CHILD_ROOM: usize = 12288;
+use text::refusal::RefusalLine;
 
 /// How many figures the sheet has: two for each of 64 variables.
 const SHEET_ROOM: usize = 128;
@@ -45,132 +36,56 @@ pub fn plant_report<K: Written, O: BranchingOrder<K>>(
 ) -> Result<String, AllocError>
     ensures { IfOk result (λ s. string_bytes s ≡ text_of (plant_report K.ring K.text (O.picks order.now) K.reading file.now)) }
 {
-    let unused = Node {
-        form: Form::False,
-        first: 0,
-        count: 0,
-    };
-    let mut nodes = vec![in heap; unused; NODE_ROOM]?;
-    let mut children = vec![in heap; 0; CHILD_ROOM]?;
-    match read_table(file, &mut nodes, &mut children) {
-        Ok(contents) => checked_report::<K, O>(
-            heap,
-            order,
-            first(&nodes, contents.nodes as usize),
-            first(&children, contents.children as usize),
-            &contents.variables,
-            behind(file, contents.weights),
-        ),
-        Err(fault) => refusal_line(heap, Fault::Table(TableFault::Text(fault))),
+    match file_report::<K, O>(heap, order, file) {
+        Ok(text) => Ok(text),
+        Err(Stop::Refused(fault)) => RefusalLine(fault).to_string(heap),
+        Err(Stop::NoMemory(error)) => Err(error),
     }
 }
 
-/// The first `count` items, or all where there are fewer.
-fn first<T>(items: &[T], count: usize) -> &[T]
-    ensures { result.now ≡ take count items.now }
-{
-    if count < items.len() {
-        &items[0..count]
-    } else {
-        items
-    }
-}
-
-/// The bytes from `place` on.
-fn behind(file: &[u8], place: usize) -> &[u8]
-    ensures { result.now ≡ drop place file.now }
-{
-    if place < file.len() {
-        &file[place..]
-    } else {
-        b""
-    }
-}
-
-/// What is printed for a table that was read, with its weight text.
-fn checked_report<K: Written, O: BranchingOrder<K>>(
+/// What is printed for a file whose parts are accepted.
+fn file_report<K: Written, O: BranchingOrder<K>>(
     heap: Global,
     order: &O,
-    nodes: &[Node],
-    children: &[u16],
-    variables: &Variables,
-    weights: &[u8],
-) -> Result<String, AllocError>
-    ensures { IfOk result (λ s. PlainNames (listed variables.now) → string_bytes s ≡ text_of (checked K.ring K.text (O.picks order.now) K.reading variables.now nodes.now children.now weights.now)) }
+    file: &[u8],
+) -> Result<String, Stop>
+    ensures { Says (Unit {0}) (plant_report K.ring K.text (O.picks order.now) K.reading file.now) result }
 {
-    match check(nodes, children, variables) {
-        Ok(mentions) => table_report::<K, O>(
-            heap, order, nodes, children, *variables, mentions, weights,
-        ),
-        Err(fault) => refusal_line(heap, Fault::Table(fault)),
-    }
+    let room = Room::largest();
+    let parts = Parts::read(heap, &room, file)??;
+    let table = Table::check(&parts.nodes, &parts.children, parts.contents.variables)?;
+    table_report(heap, order, &table, parts.weights(file))
 }
 
-/// What is printed for a table that the check accepts, with its weight text.
-fn table_report<'a, K: Written, O: BranchingOrder<K>>(
+/// What is printed for a checked table, with its weight text.
+fn table_report<K: Written, O: BranchingOrder<K>>(
     heap: Global,
     order: &O,
-    nodes: &'a [Node],
-    children: &'a [u16],
-    variables: Variables,
-    mentions: Mentions,
+    table: &Table,
     weights: &[u8],
-) -> Result<String, AllocError>
-    requires { check_says variables nodes.now children.now ≡ Ok mentions }
-    ensures { IfOk result (λ s. PlainNames (listed variables) → string_bytes s ≡ text_of (checked K.ring K.text (O.picks order.now) K.reading variables nodes.now children.now weights.now)) }
+) -> Result<String, Stop>
+    ensures { Says (PlainNames (listed table.now.variables)) (weighed K.ring K.text (O.picks order.now) K.reading work_room table.now.variables (circuit table.now) (replicate sheet_room K.ring.zero) weights.now) result }
 {
     let mut figures = zeros::<K>(heap, SHEET_ROOM)?;
     let mut work = zeros::<K>(heap, WORK_ROOM)?;
-    let table = Table::new(nodes, children, variables, mentions);
-    weighed_report(heap, order, &table, &mut figures, &mut work, weights)
+    let mut sheet = Sheet {
+        figures: &mut figures,
+    };
+    read_weights(table, &mut sheet, weights)?;
+    let holds = Holds::new();
+    let most = bound(table, &holds, &sheet, &mut work)?;
+    let found = select(table, &holds, &sheet, &mut work, order)?;
+    Ok(report_text(heap, &table.variables, most, &found)?)
 }
 
 /// A store of so many figures.
 fn zeros<K: Figure>(heap: Global, count: usize) -> Result<Vec<K>, AllocError>
     ensures { IfOk result (λ v. v.items ≡ replicate count K.ring.zero) }
 {
+    // Not `vec!`: it clones its item, and no law says that the clone of a figure is the figure.
     let mut store = Vec::new(heap);
     for _ in 0..count {
         store.push(K::zero())?;
     }
     Ok(store)
-}
-
-/// What is printed for a checked table, with its weight text.
-fn weighed_report<K: Written, O: BranchingOrder<K>>(
-    heap: Global,
-    order: &O,
-    table: &Table,
-    figures: &mut [K],
-    work: &mut [K],
-    weights: &[u8],
-) -> Result<String, AllocError>
-    ensures { IfOk result (λ s. PlainNames (listed table.now.variables) → string_bytes s ≡ text_of (weighed K.ring K.text (O.picks order.now) K.reading (length work.old) table.now.variables (circuit table.now) figures.old weights.now)) }
-{
-    let mut sheet = Sheet { figures };
-    match read_weights(table, &mut sheet, weights) {
-        Ok(_) => asked_report(heap, order, table, &sheet, work),
-        Err(fault) => refusal_line(heap, fault),
-    }
-}
-
-/// What is printed for a checked table and its sheet.
-fn asked_report<K: Written, O: BranchingOrder<K>>(
-    heap: Global,
-    order: &O,
-    table: &Table,
-    sheet: &Sheet<K>,
-    work: &mut [K],
-) -> Result<String, AllocError>
-    ensures { IfOk result (λ s. PlainNames (listed table.now.variables) → string_bytes s ≡ text_of (asked K.ring K.text (O.picks order.now) (length work.old) table.now.variables (circuit table.now) sheet.now.figures.now)) }
-{
-    let holds = Holds::new();
-    let most = match bound(table, &holds, sheet, work) {
-        Ok(most) => most,
-        Err(fault) => return refusal_line(heap, fault),
-    };
-    match select(table, &holds, sheet, work, order) {
-        Ok(found) => report_text(heap, &table.variables, most, &found),
-        Err(fault) => refusal_line(heap, fault),
-    }
 }

@@ -1,5 +1,5 @@
 -- A day is answered as worked out, and in no other way. Assumes nothing.
-use Rattle.std.proofs.Common.{◌≡◌, ℕ, zero, suc, ◌+◌, ◌-◌, ◌<◌, ◌≤◌, Bool, true, false, not, ◌&&◌, eqb, ltb, ◌⊎◌, List, [], ◌∷◌, length, get_or, replicate, Some, None, Option, sym, refl, ap, ◌∙◌, ap₂, inl, inr, arith}
+use Rattle.std.proofs.Common.{◌≡◌, ℕ, zero, suc, ◌+◌, ◌-◌, ◌<◌, ◌≤◌, Bool, true, false, not, ◌&&◌, eqb, ltb, ◌⊎◌, List, [], ◌∷◌, length, get_or, replicate, Some, None, Ok, Err, Option, sym, refl, ap, ◌∙◌, ap₂, inl, inr, arith}
 use Rattle.std.proofs.lemmas.Bool.{true≢false, false≢true, cases_Bool, cond_both, and_parts, not-true, ltb-true}
 use Rattle.kinds.specs.Semiring.{Semiring, Laws}
 use Rattle.table.specs.Circuit.{Shape, every}
@@ -8,23 +8,20 @@ use Rattle.table.specs.Sound.{Roles, is_option, options, sound, verdict, up_to}
 use Rattle.table.proofs.Listed.{every_at, some_at, some_among}
 use Rattle.passes.specs.Holding.{Entries, entry, is_free}
 use Rattle.passes.specs.Marks.{with_entry, held}
-use Rattle.passes.specs.Passes.{bound}
 use Rattle.passes.specs.declared.holds.Entry.{Entry}
 use Rattle.passes.specs.declared.holds.Entry.TheVariants.{Free}
-use Rattle.passes.proofs.Above.{covers}
-use Rattle.passes.proofs.Below.{tightens}
-use Rattle.search.specs.declared.call.Answer.{Answer}
-use Rattle.search.specs.declared.call.Answer.TheVariants.{Refused, Done, Value, Chosen}
+use Rattle.search.specs.declared.call.Reply.TheVariants.{Value, Chosen}
 use Rattle.search.specs.declared.call.Call.{Call}
 use Rattle.search.specs.declared.call.Call.TheVariants.{Hold, Release, Weigh, Trial, Figure, Bound, Select}
 use Rattle.search.specs.declared.fault.Fault.{Fault}
 use Rattle.search.specs.declared.fault.Fault.TheVariants.{StrayHold, NoOption, StillFree}
 use Rattle.search.specs.Faults.{fault_number}
 use Rattle.search.specs.Orders.{Order, Lawful}
-use Rattle.search.specs.Study.{Tests, first_fit, change_unless, stray_hold}
-use Rattle.search.specs.Day.{Book, new, tests, First, Passes, changed, after, Bounded, Says, Right, Day, over, asked, reply, refused_or, answer, answers, book_after, DaysAgree, NoStrays}
+use Rattle.search.specs.Study.{Tests, first_fit, answer_unless, change_unless, stray_hold}
+use Rattle.search.specs.Day.{Book, new, tests, First, Passes, changed, after, Says, Right, Day, over, asked, reply, Answer, answer, answers, book_after, DaysAgree, NoStrays}
 use Rattle.search.proofs.Holding.{entry_apart, entries_length, all_held}
 use Rattle.search.proofs.Best.{one_figure, selects}
+use Rattle.search.proofs.Bounds.{bounded}
 
 -- each refusal's number is below those of the refusals behind it
 abbrev rise : Tests → Bool
@@ -98,20 +95,20 @@ changed_length b Bound = refl
 changed_length b Select = refl
 
 module _ {F : Type 0} (R : Semiring F) (pick : Order F) (rs : Roles) (ss : List Shape) (work-size : ℕ) where
-  one_reply : (b : Book F) (c : Call F) (a : Answer F) → Says R pick rs ss b c a → a ≡ reply R pick rs ss b c
+  one_reply : (b : Book F) (c : Call F) (a : Answer F) → Says R pick rs ss b c a → a ≡ Ok (reply R pick rs ss b c)
   one_reply b (Hold v s) a says = says
   one_reply b (Release v) a says = says
   one_reply b (Weigh v x y) a says = says
-  one_reply b (Trial v s) a says = says.1 ∙ ap Value says.2.is_bound
-  one_reply b Figure a says = says.1 ∙ ap Value says.2.is_figure
-  one_reply b Bound a says = says.1 ∙ ap Value says.2.is_bound
-  one_reply b Select a says = says.1 ∙ ap Chosen says.2.is_select
+  one_reply b (Trial v s) a says = says.1 ∙ ap (λ x. Ok (Value x)) says.2.is_bound
+  one_reply b Figure a says = says.1 ∙ ap (λ x. Ok (Value x)) says.2.is_figure
+  one_reply b Bound a says = says.1 ∙ ap (λ x. Ok (Value x)) says.2.is_bound
+  one_reply b Select a says = says.1 ∙ ap (λ x. Ok (Chosen x)) says.2.is_select
 
   one_answer : (b next : Book F) (c : Call F) (a : Answer F) → Right R pick rs ss work-size b c a next
       → (a ≡ answer R pick rs ss work-size b c) × (next ≡ after rs ss work-size b c)
   one_answer b next c a right = by (first_fit (tests rs ss work-size b c)) (judge rs ss work-size b c)
     where
-      by : (o : Option Fault) → Judged (tests rs ss work-size b c) o → (a ≡ refused_or o (reply R pick rs ss b c)) × (next ≡ change_unless o (changed b c) b)
+      by : (o : Option Fault) → Judged (tests rs ss work-size b c) o → (a ≡ answer_unless o (reply R pick rs ss b c)) × (next ≡ change_unless o (changed b c) b)
       by None j = let says = right.accepted j in (one_reply b c a says.0, says.1)
       by (Some f) j = right.refused f (judged_first rs ss work-size b c f j)
 
@@ -128,16 +125,13 @@ module _ {F : Type 0} (R : Semiring F) (pick : Order F) (rs : Roles) (ss : List 
 
 module _ {F : Type 0} (R : Semiring F) (laws : Laws R) (pick : Order F) (lawful : Lawful pick)
     (rs : Roles) (ss : List Shape) (accepted : verdict rs ss ≡ sound) where
-  bounded : (h : Entries) (sheet : List F) → Bounded R rs ss h sheet (bound R rs sheet ss h)
-  bounded h sheet = record { is_bound = refl; covers = covers R laws rs ss sheet accepted h; tight = tightens R laws rs ss sheet accepted h }
-
   module _ (work-size : ℕ) where
     replies : (b : Book F) (c : Call F) → length rs ≤ length b.holds → Passes rs ss work-size b c
-        → Says R pick rs ss b c (reply R pick rs ss b c)
+        → Says R pick rs ss b c (Ok (reply R pick rs ss b c))
     replies b (Hold v s) room passes = refl
     replies b (Release v) room passes = refl
     replies b (Weigh v x y) room passes = refl
-    replies b (Trial v s) room passes = (_, refl, bounded (with_entry b.holds v (held s)) b.sheet)
+    replies b (Trial v s) room passes = (_, refl, bounded R laws rs ss accepted (with_entry b.holds v (held s)) b.sheet)
     replies b Figure room passes = (
       _,
       refl,
@@ -147,7 +141,7 @@ module _ {F : Type 0} (R : Semiring F) (laws : Laws R) (pick : Order F) (lawful 
             passes StillFree (inr (inr (inl (ap (λ t. (t, StillFree)) (some_among (λ x. is_free (entry b.holds x)) (options rs) v m e)))))));
       },
     )
-    replies b Bound room passes = (_, refl, bounded b.holds b.sheet)
+    replies b Bound room passes = (_, refl, bounded R laws rs ss accepted b.holds b.sheet)
     replies b Select room passes = (_, refl, record { is_select = refl; best = selects R laws pick lawful rs ss b.sheet accepted b.holds room })
 
     answers_right : (b : Book F) (c : Call F) → length rs ≤ length b.holds
@@ -155,10 +149,10 @@ module _ {F : Type 0} (R : Semiring F) (laws : Laws R) (pick : Order F) (lawful 
     answers_right b c room = by (first_fit (tests rs ss work-size b c)) (judge rs ss work-size b c)
       where
         by : (o : Option Fault) → Judged (tests rs ss work-size b c) o
-            → Right R pick rs ss work-size b c (refused_or o (reply R pick rs ss b c)) (change_unless o (changed b c) b)
+            → Right R pick rs ss work-size b c (answer_unless o (reply R pick rs ss b c)) (change_unless o (changed b c) b)
         by None j = record { refused = λ f first. absurd (j f first.0); accepted = λ passes. (replies b c room passes, refl) }
         by (Some f) j = record {
-          refused = λ g first. (ap Refused (first_judged rs ss work-size b c f g j first), refl);
+          refused = λ g first. (ap Err (first_judged rs ss work-size b c f g j first), refl);
           accepted = λ passes. absurd (passes f j.0);
         }
 
@@ -200,10 +194,8 @@ none_stray rs h tidy = elim (cases_Bool (stray_hold rs h).0) [
 
 -- whether an answer, or a refusal that fits, is for stray holds
 abbrev for_stray : {F : Type 0} → Answer F → Bool
-for_stray (Refused f) = eqb (fault_number f) 15
-for_stray Done = false
-for_stray (Value f) = false
-for_stray (Chosen found) = false
+for_stray (Ok r) = false
+for_stray (Err f) = eqb (fault_number f) 15
 
 abbrev not_for_stray : Bool × Fault → Bool
 not_for_stray t = not (eqb (fault_number t.1) 15 && t.0)
@@ -218,15 +210,6 @@ module _ {F : Type 0} (R : Semiring F) (pick : Order F) (rs : Roles) (ss : List 
   tidy_changed b Bound tidy passes = tidy
   tidy_changed b Select tidy passes = tidy
 
-  reply_stray : (b : Book F) (c : Call F) → for_stray (reply R pick rs ss b c) ≡ false
-  reply_stray b (Hold v s) = refl
-  reply_stray b (Release v) = refl
-  reply_stray b (Weigh v x y) = refl
-  reply_stray b (Trial v s) = refl
-  reply_stray b Figure = refl
-  reply_stray b Bound = refl
-  reply_stray b Select = refl
-
   tests_stray : (b : Book F) (c : Call F) → (stray_hold rs b.holds).0 ≡ false → every not_for_stray (tests rs ss work-size b c) ≡ true
   tests_stray b (Hold v s) out = rw out refl
   tests_stray b (Release v) out = rw out refl
@@ -239,13 +222,13 @@ module _ {F : Type 0} (R : Semiring F) (pick : Order F) (rs : Roles) (ss : List 
   answer_stray : (b : Book F) (c : Call F) → Tidy rs b.holds → for_stray (answer R pick rs ss work-size b c) ≡ false
   answer_stray b c tidy = by (first_fit (tests rs ss work-size b c)) (judge rs ss work-size b c)
     where
-      by : (o : Option Fault) → Judged (tests rs ss work-size b c) o → for_stray (refused_or o (reply R pick rs ss b c)) ≡ false
-      by None j = reply_stray b c
+      by : (o : Option Fault) → Judged (tests rs ss work-size b c) o → for_stray (answer_unless o (reply R pick rs ss b c)) ≡ false
+      by None j = refl
       by (Some f) j = let e = every_at not_for_stray (tests rs ss work-size b c) (tests_stray b c (none_stray rs b.holds tidy)) (true, f) j.0 in
           elim (cases_Bool (eqb (fault_number f) 15)) [ inl t ↦ absurd (false≢true (rw t at e)) | inr f ↦ f ]
 
   never_stray : {b end : Book F} {cs : List (Call F)} {given : List (Answer F)} → Day R pick rs ss work-size b cs given end → Tidy rs b.holds
-      → Among (Refused StrayHold) given → ⊥
+      → Among (Err StrayHold) given → ⊥
   never_stray over tidy m = m
   never_stray (asked {b = b} {next = next} {c = c} {a = a} right rest) tidy (inl same) =
       true≢false (sym (ap for_stray same) ∙ ap for_stray (one_answer R pick rs ss work-size b next c a right).0 ∙ answer_stray b c tidy)

@@ -2,6 +2,7 @@
 use Rattle.std.proofs.Common.{◌≡◌, ℕ, ◌+◌, ◌<◌, ◌≤◌, Bool, true, false, cond, List, [], ◌∷◌, length, get_or, drop, Some, None, Option, sym, refl, ap, ◌∙◌, subst, not-suc-le-zero}
 use Rattle.std.proofs.lemmas.List.{at_drop_more, at_drop_all}
 use Rattle.std.proofs.lemmas.Bool.{cond-true, cond-false, cond_both}
+use Rattle.std.specs.Option.{unwrap_or}
 use Rattle.kinds.specs.Semiring.{Semiring}
 use Rattle.table.specs.Circuit.{every}
 use Rattle.table.proofs.Folds.{every_here}
@@ -84,3 +85,8 @@ module _ {F : Type 0} (R : Semiring F) (part : List F) where
   leading_over cs best found i h e inv =
       let v : ℕ = lowest (told R part cs) in
       sym (ap (λ b. answer_after v b []) e) ∙ sym (at_drop_all (answer_after v best) cs i h) ∙ inv.answer
+
+  -- the best that is found, or else the first of all
+  pub found_or : (v : ℕ) (found : Option Choice) (d : Choice) → d.option ≡ v → (unwrap_or found d).option ≡ answer_after v found []
+  found_or v None d e = e
+  found_or v (Some b) d e = refl

@@ -5,9 +5,8 @@ use Rattle.std.proofs.lemmas.Bool.{cases_lt}
 use Rattle.kinds.specs.Semiring.{Semiring}
 use Rattle.table.specs.Circuit.{Shape}
 use Rattle.table.specs.Sound.{Roles}
-use Rattle.search.specs.Day.{Book, answer, answers, after, book_after}
+use Rattle.search.specs.Day.{Book, Answer, answer, answers, after, book_after}
 use Rattle.search.specs.Orders.{Order}
-use Rattle.search.specs.declared.call.Answer.{Answer}
 use Rattle.search.specs.declared.call.Call.{Call}
 
 module _ {F : Type 0} (R : Semiring F) (pick : Order F) (rs : Roles) (ss : List Shape) (room : ℕ) (start : Book F) (cs : List (Call F)) (before : List (Answer F)) where

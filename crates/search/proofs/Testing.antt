@@ -1,58 +1,58 @@
--- Tests gone through one by one. Assumes nothing.
-use Rattle.std.proofs.Common.{◌≡◌, ℕ, suc, ◌+◌, ◌-◌, ◌<◌, ◌≤◌, Bool, true, false, cond, ◌&&◌, ◌||◌, ◌∷◌, length, get_or, drop, is_some, Some, None, sym, refl, ap, ◌∙◌, add-one, arith}
-use Rattle.std.proofs.lemmas.List.{at_drop_more}
-use Rattle.std.proofs.lemmas.Bool.{true≢false}
+-- What a test answers, and tests of all variables at once. Assumes nothing.
+use Rattle.std.proofs.Common.{◌≡◌, ℕ, suc, ◌+◌, ◌-◌, ◌<◌, Bool, true, false, cond, ◌&&◌, ◌||◌, [], ◌∷◌, length, get_or, Ok, Err, Result, sym, refl, ap, ◌∙◌, ap₂, add-zero, zero-add, arith}
+use Rattle.std.specs.List.{list_any, range_with_len, enumerate_from}
 use Rattle.table.specs.Circuit.{some}
-use Rattle.table.specs.Sound.{Roles, is_option, from, up_to}
+use Rattle.table.specs.Sound.{Roles, is_option, from, options, up_to}
 use Rattle.table.proofs.Numbers.{role_at}
+use Rattle.passes.specs.Holding.{Entries, entry, is_free}
+use Rattle.passes.specs.Marks.{entry_at}
+use Rattle.passes.specs.declared.holds.Entry.{Entry}
+use Rattle.passes.specs.declared.holds.Entry.TheVariants.{Free}
 use Rattle.search.specs.declared.fault.Fault.{Fault}
-use Rattle.search.specs.Study.{Tests, first_fit}
+use Rattle.search.specs.Study.{passed}
+use Rattle.search.proofs.Listing.{entry_read}
 
-module _ (ts : Tests) (i : ℕ) (d : Bool × Fault) (h : i < length ts) where
-  fit_here : first_fit (drop i ts) ≡ cond (get_or ts i d).0 (Some (get_or ts i d).1) (first_fit (drop (i + 1) ts))
-  fit_here = at_drop_more first_fit ts i d h
-
-  pub fit_found : (get_or ts i d).0 ≡ true → first_fit (drop i ts) ≡ Some (get_or ts i d).1
-  fit_found t = fit_here ∙ rw t
-
-  pub fit_later : (get_or ts i d).0 ≡ false → first_fit (drop i ts) ≡ first_fit (drop (i + 1) ts)
-  fit_later f = fit_here ∙ rw f
-
--- of the numbers 1 to n, from i + 1 on
-module _ (p : ℕ → Bool) (n i : ℕ) (h : i < n) where
-  some_here : some p (up_to (i + 1) (n - i)) ≡ (p (i + 1) || some p (up_to (i + 1 + 1) (n - (i + 1))))
-  some_here = let step : n - i ≡ suc (n - (i + 1)) = omega arith in ap (λ k. some p (up_to (i + 1) k)) step
-
-  pub some_found : p (i + 1) ≡ true → some p (up_to (i + 1) (n - i)) ≡ true
-  some_found t = some_here ∙ rw t
-
-  pub some_later : p (i + 1) ≡ false → some p (up_to (i + 1) (n - i)) ≡ some p (up_to (i + 1 + 1) (n - (i + 1)))
-  some_later f = some_here ∙ rw f
-
-pub some_past : (p : ℕ → Bool) (n i : ℕ) → n ≤ i → some p (up_to (i + 1) (n - i)) ≡ false
-some_past p n i h = let none : n - i ≡ 0 = omega arith in ap (λ k. some p (up_to (i + 1) k)) none
-
--- of the options, from variable i + 1 on
-module _ (p : ℕ → Bool) (rs : Roles) (i : ℕ) (h : i < length rs) where
-  options_here : some p (from (i + 1) true (drop i rs)) ≡ ((is_option rs (i + 1) && p (i + 1)) || some p (from (i + 1 + 1) true (drop (i + 1) rs)))
-  options_here =
-      at_drop_more (λ xs. some p (from (i + 1) true xs)) rs i false h ∙ by (get_or rs i false)
-      ∙ sym (ap (λ r. (r && p (i + 1)) || some p (from (i + 1 + 1) true (drop (i + 1) rs))) (ap (is_option rs) (add-one i) ∙ role_at rs i))
-    where
-      by : (r : Bool) → some p (from (i + 1) true (r ∷ drop (i + 1) rs)) ≡ ((r && p (i + 1)) || some p (from (i + 1 + 1) true (drop (i + 1) rs)))
-      by true = refl
-      by false = refl
-
-  pub option_found : (is_option rs (i + 1) && p (i + 1)) ≡ true → some p (from (i + 1) true (drop i rs)) ≡ true
-  option_found t = options_here ∙ rw t
-
-  pub option_later : (is_option rs (i + 1) && p (i + 1)) ≡ false → some p (from (i + 1) true (drop i rs)) ≡ some p (from (i + 1 + 1) true (drop (i + 1) rs))
-  option_later f = options_here ∙ rw f
-
--- a test that does not fit, and those behind it, where none fits
-pub none_fits : (t : Bool × Fault) (ts : Tests) → first_fit (t ∷ ts) ≡ None → (t.0 ≡ false) × (first_fit ts ≡ None)
-none_fits t ts e = by t.0 e
+-- a single test that refuses, and one that does not
+pub refuses : (t : Bool × Fault) (r : Result (Unit {0}) Fault) (f : Fault) → r ≡ passed t → r ≡ Err f → (t.0 ≡ true) × (t.1 ≡ f)
+refuses t r f is e = by t.0 (sym is ∙ e)
   where
-    by : (b : Bool) → cond b (Some t.1) (first_fit ts) ≡ None → (b ≡ false) × (first_fit ts ≡ None)
-    by true e = absurd (true≢false (ap is_some e))
-    by false e = (refl, e)
+    by : (b : Bool) → cond b (Err t.1) (Ok (tt {0})) ≡ Err f → (b ≡ true) × (t.1 ≡ f)
+    by true e = (refl, cc)
+    by false e = absurd (let z : ◌≡◌ {A = ℕ} 0 1 = cc in omega arith)
+
+pub passes : (t : Bool × Fault) (r : Result (Unit {0}) Fault) → r ≡ passed t → r ≡ Ok (tt {0}) → t.0 ≡ false
+passes t r is e = by t.0 (sym is ∙ e)
+  where
+    by : (b : Bool) → cond b (Err t.1) (Ok (tt {0})) ≡ Ok (tt {0}) → b ≡ false
+    by true e = absurd (let z : ◌≡◌ {A = ℕ} 0 1 = cc in omega arith)
+    by false e = refl
+
+-- a test of the entries xs, which are those of h behind the first i
+any_entry : (q : ℕ → Entry → Bool) (h : Entries) (i : ℕ) (xs : Entries) → ((k : ℕ) → get_or xs k Free ≡ get_or h (i + k) Free)
+    → list_any (λ p. q (p.0 + 1) p.1) (enumerate_from i xs) ≡ some (λ v. q v (entry h v)) (up_to (i + 1) (length xs))
+any_entry q h i [] e = refl
+any_entry q h i (x ∷ xs) e =
+    let at : i + 0 ≡ i + 1 - 1 = omega arith in
+    ap₂ (λ a b. a || b) (ap (q (i + 1)) (e 0 ∙ ap (λ k. get_or h k Free) at))
+    (any_entry q h (i + 1) xs (λ k. e (suc k) ∙ ap (λ n. get_or h n Free) (let z : i + suc k ≡ i + 1 + k = omega arith in z)))
+
+pub any_variable : (q : ℕ → Entry → Bool) (h : Entries)
+    → list_any (λ p. q (p.0 + 1) p.1) (enumerate_from 0 h) ≡ some (λ v. q v (entry h v)) (up_to 1 (length h))
+any_variable q h = any_entry q h 0 h (λ k. ap (λ n. get_or h n Free) (sym (zero-add k)))
+
+-- a test of the options among the variables from i on, whose roles are rs
+any_option : (all : Roles) (h : Entries) (i : ℕ) (rs : Roles) → 0 < i → ((k : ℕ) → is_option all (i + k) ≡ get_or rs k false)
+    → list_any (λ v. is_option all v && is_free (entry_at h v)) (range_with_len i (length rs)) ≡ some (λ v. is_free (entry h v)) (from i true rs)
+any_option all h i [] low e = refl
+any_option all h i (r ∷ rs) low e =
+    let here : is_option all i ≡ r = ap (is_option all) (sym (add-zero i)) ∙ e 0 in
+    let rest = any_option all h (i + 1) rs (omega arith) (λ k. ap (is_option all) (let z : i + 1 + k ≡ i + suc k = omega arith in z) ∙ e (suc k)) in
+    ap₂ (λ o b. (o && is_free (entry_at h i)) || b) here rest ∙ by r
+  where
+    by : (r : Bool) → ((r && is_free (entry_at h i)) || some (λ v. is_free (entry h v)) (from (i + 1) true rs)) ≡ some (λ v. is_free (entry h v)) (from i true (r ∷ rs))
+    by true = ap (λ e. is_free e || some (λ v. is_free (entry h v)) (from (i + 1) true rs)) (entry_read h i low)
+    by false = refl
+
+pub any_free : (rs : Roles) (h : Entries)
+    → list_any (λ v. is_option rs v && is_free (entry_at h v)) (range_with_len 1 (length rs)) ≡ some (λ v. is_free (entry h v)) (options rs)
+any_free rs h = any_option rs h 1 rs (omega arith) (λ k. ap (is_option rs) (let z : 1 + k ≡ suc k = omega arith in z) ∙ role_at rs k)

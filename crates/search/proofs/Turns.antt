@@ -1,21 +1,42 @@
 -- One branch opened. Assumes nothing.
-use Rattle.std.proofs.Common.{◌≡◌, ℕ, zero, suc, ◌+◌, ◌<◌, Bool, true, false, cond, Some, sym, refl, ap, ◌∙◌, ap₂, not-suc-le-zero, arith}
-use Rattle.std.proofs.lemmas.Bool.{cond-true, cond-false}
+use Rattle.std.proofs.Common.{◌≡◌, ℕ, zero, suc, ◌+◌, ◌<◌, Bool, true, false, cond, is_some, Some, None, Option, sym, refl, ap, ◌∙◌, ap₂, not-suc-le-zero, arith}
+use Rattle.std.proofs.lemmas.Bool.{cond-true, cond-false, true≢false}
 use Rattle.kinds.specs.Semiring.{Semiring}
 use Rattle.passes.specs.Holding.{Entries}
 use Rattle.passes.specs.Marks.{with_entry}
 use Rattle.passes.specs.declared.holds.Entry.TheVariants.{On, Off}
 use Rattle.search.specs.declared.found.Found.{Found}
 use Rattle.search.specs.Select.{Branching, best_figure, opened, offered, branching, explored}
-use Rattle.search.specs.Walk.{gate, turn}
+use Rattle.search.specs.Walk.{as_option, gate, turn}
 
 pub gate_some : (k v : ℕ) → 0 < k → gate k v ≡ v
 gate_some zero v l = absurd (not-suc-le-zero l)
 gate_some (suc k) v l = refl
 
-pub branching_some : {A : Type 0} (v : ℕ) (leaf both : A) → 0 < v → branching v leaf both ≡ both
-branching_some zero leaf both l = absurd (not-suc-le-zero l)
-branching_some (suc v) leaf both l = refl
+-- a number above 0 is one of an option
+pub option_some : (v : ℕ) → 0 < v → Some v ≡ as_option v
+option_some zero l = absurd (not-suc-le-zero l)
+option_some (suc v) l = refl
+
+pub option_is : (n v : ℕ) → Some v ≡ as_option n → (v ≡ n) × (0 < n)
+option_is zero v e = absurd (let z : ◌≡◌ {A = ℕ} 0 1 = cc in omega arith)
+option_is (suc n) v e = (cc, omega arith)
+
+pub option_none : (n : ℕ) → ◌≡◌ {A = Option ℕ} None (as_option n) → 0 ≡ n
+option_none zero e = refl
+option_none (suc n) e = absurd (let z : ◌≡◌ {A = ℕ} 0 1 = cc in omega arith)
+
+branching_first : {A : Type 0} (n : ℕ) (leaf both : A) → (branching {A = ℕ × A} n (0, leaf) (n, both)).0 ≡ n
+branching_first zero leaf both = refl
+branching_first (suc n) leaf both = refl
+
+branching_none : {A : Type 0} (n : ℕ) (o : Option ℕ) (leaf both : A) → o ≡ as_option n → is_some o ≡ false → branching n leaf both ≡ leaf
+branching_none zero o leaf both is none = refl
+branching_none (suc n) o leaf both is none = absurd (true≢false (sym (ap is_some is) ∙ none))
+
+branching_some : {A : Type 0} (n : ℕ) (o : Option ℕ) (leaf both : A) → o ≡ as_option n → is_some o ≡ true → branching n leaf both ≡ both
+branching_some zero o leaf both is some = absurd (true≢false (sym some ∙ ap is_some is))
+branching_some (suc n) o leaf both is some = refl
 
 -- the ways of a branch, over whether it is cut and the option v to branch on
 abbrev way : {A : Type 0} → Bool → ℕ → A → A → ℕ × A
@@ -47,11 +68,20 @@ module _ {F : Type 0} (R : Semiring F) (p : Branching F) where
     unfolding turn
     turn_cut t = cond-true (cut_at h s) _ (branching (gate k (p.next h)) (0, leaf_at h s) (gate k (p.next h), opened s)) t
 
-    pub turn_open : R.upto (p.bound_of h) (best_figure R s.best) ≡ false → (v : ℕ) → v ≡ gate k (p.next h)
-        → turn R p k h s ≡ branching v (0, offered R h (p.figure_of h) (opened s)) (v, opened s)
+    turn_open : R.upto (p.bound_of h) (best_figure R s.best) ≡ false
+        → turn R p k h s ≡ branching (gate k (p.next h)) (0, offered R h (p.figure_of h) (opened s)) (gate k (p.next h), opened s)
     unfolding turn
-    turn_open f v e =
-        cond-false (cut_at h s) (0, opened s) _ f ∙ sym (ap (λ n. branching n (0, leaf_at h s) (n, opened s)) e)
+    turn_open f = cond-false (cut_at h s) (0, opened s) _ f
+
+    pub turn_option : R.upto (p.bound_of h) (best_figure R s.best) ≡ false → (turn R p k h s).0 ≡ gate k (p.next h)
+    turn_option f = ap (λ t. t.0) (turn_open f) ∙ branching_first (gate k (p.next h)) _ _
+
+    module _ (f : R.upto (p.bound_of h) (best_figure R s.best) ≡ false) (o : Option ℕ) (is : o ≡ as_option (gate k (p.next h))) where
+      pub turn_leaf : is_some o ≡ false → (turn R p k h s).1 ≡ offered R h (p.figure_of h) (opened s)
+      turn_leaf none = ap (λ t. t.1) (turn_open f ∙ branching_none (gate k (p.next h)) o _ _ is none)
+
+      pub turn_fork : is_some o ≡ true → (turn R p k h s).1 ≡ opened s
+      turn_fork some = ap (λ t. t.1) (turn_open f ∙ branching_some (gate k (p.next h)) o _ _ is some)
 
     -- one branch more is opened
     pub turn_openings : (turn R p k h s).1.openings ≡ s.openings + 1

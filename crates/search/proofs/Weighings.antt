@@ -1,11 +1,12 @@
 -- The reader of a weight text line by line. Assumes nothing.
-use Rattle.std.proofs.Common.{◌≡◌, ℕ, suc, ◌+◌, ◌-◌, ◌*◌, ◌<◌, ◌≤◌, Bool, true, false, cond, not, ◌&&◌, eqb, ltb, leb, List, [], ◌∷◌, length, take, drop, replicate, Ok, Err, Option, Result, sym, refl, ap, ◌∙◌, ap₂, inl, inr, arith}
-use Rattle.std.proofs.lemmas.List.{length-set, length-drop, drop-drop, take_rest, drop_all}
-use Rattle.std.proofs.lemmas.Bool.{cases_Bool, cond-true, cond-false, and_parts, not_from_true, not_from_false, leb-true, ltb-true, lt-ltb, le-ltb}
+use Rattle.std.proofs.Common.{◌≡◌, ℕ, suc, ◌+◌, ◌*◌, ◌<◌, ◌≤◌, Bool, true, false, cond, not, ◌&&◌, eqb, ltb, leb, List, [], ◌∷◌, ◌++◌, length, take, drop, replicate, Ok, Err, Option, Result, sym, refl, ap, ◌∙◌, subst, ap₂, inl, inr, arith}
+use Rattle.std.proofs.lemmas.List.{length-set, length-drop, length-take-le, length-replicate}
+use Rattle.std.proofs.lemmas.Bool.{cases_Bool, cases_lt, cond-true, cond-false, and_parts, not_from_true, not_from_false, leb-true, ltb-true, lt-ltb, le-ltb}
+use Rattle.std.specs.List.{FoldsTo}
 use Rattle.text.specs.declared.fault.Reason.TheVariants as reason
 use Rattle.text.specs.Format.{Said, overwritten}
-use Rattle.text.specs.Lines.{index_of, lines}
-use Rattle.text.proofs.Cuts.{line_inside, line_size, lines_left, lines_none}
+use Rattle.text.specs.Lines.{index_of, lines, BeginsWithLine}
+use Rattle.text.proofs.Cuts.{first_line, no_line}
 use Rattle.table.specs.Sound.{Roles, is_option, known}
 use Rattle.search.specs.declared.fault.Fault.{Fault}
 use Rattle.search.specs.declared.fault.Fault.TheVariants.{ShortSheet, WeightLine}
@@ -13,8 +14,19 @@ use Rattle.search.specs.declared.weighing.Weighing.{Weighing}
 use Rattle.search.specs.Day.{weighed}
 use Rattle.search.specs.Weights.{Reading, read, refused, in_text, form_says, of_chance, line_says, is_closed, read_on, weights_say}
 
+-- what was filled with one value
+pub filled : {S X : Type 0} (R : S → X → S → Type 0) (f : S) (y : X) (xs : List X) (last : S) → ((x : X) (q : S) → R f x q → (q ≡ f) × (x ≡ y)) → FoldsTo R f xs last → xs ≡ replicate (length xs) y
+filled R f y [] last same runs = refl
+filled R f y (x ∷ xs) last same runs =
+    let here = same x runs.0 runs.1 in ap₂ ◌∷◌ here.1 (filled R f y xs last same (subst (λ j. FoldsTo R j xs last) here.0 runs.2))
+
+pub filled_front : {X : Type 0} (n : ℕ) (y : X) (xs new : List X) → n ≤ length xs → new ≡ replicate (length new) y → length new ≡ length (take n xs) → new ++ drop n xs ≡ overwritten (replicate n y) xs
+filled_front n y xs new h ones long =
+    let same : length new ≡ n = long ∙ length-take-le n xs h in
+    ap₂ (λ a k. a ++ drop k xs) (ones ∙ ap (λ k. replicate k y) same) (sym (length-replicate n y))
+
 -- A text with a byte 10 is closed if what stands behind it is; a text without is closed if it is empty.
-pub closed_behind : (xs : List ℕ) → index_of 10 xs < length xs → is_closed xs ≡ is_closed (drop (suc (index_of 10 xs)) xs)
+closed_behind : (xs : List ℕ) → index_of 10 xs < length xs → is_closed xs ≡ is_closed (drop (suc (index_of 10 xs)) xs)
 closed_behind [] h = absurd (omega arith)
 closed_behind (x ∷ []) h =
     elim (eqb x 10) as (λ t. cond t 0 1 < 1 → t ≡ is_closed (drop (suc (cond t 0 1)) (x ∷ []))) [
@@ -27,7 +39,7 @@ closed_behind (x ∷ y ∷ ys) h =
       | false ↦ λ k. closed_behind (y ∷ ys) (omega arith)
     ] h
 
-pub not_closed : (xs : List ℕ) → length xs ≤ index_of 10 xs → 0 < length xs → is_closed xs ≡ false
+not_closed : (xs : List ℕ) → length xs ≤ index_of 10 xs → 0 < length xs → is_closed xs ≡ false
 not_closed [] h some = absurd (omega arith)
 not_closed (x ∷ []) h some =
     elim (eqb x 10) as (λ t. 1 ≤ cond t 0 1 → t ≡ false) [
@@ -40,27 +52,36 @@ not_closed (x ∷ y ∷ ys) h some =
       | false ↦ λ k. not_closed (y ∷ ys) (omega arith) (omega arith)
     ] h
 
--- the same of what is left of a text, by the end of its first line
-module _ (xs : List ℕ) (at r : ℕ) (inside : at ≤ length xs) (is : r ≡ index_of 10 (take (length xs - at) (drop at xs))) where
-  here : r ≡ index_of 10 (drop at xs)
-  here = is ∙ ap (index_of 10) (take_rest xs at)
+-- the same by the first line, if there is one
+begins_at : (xs l : List ℕ) → BeginsWithLine xs l → (index_of 10 xs < length xs) × (length l ≡ index_of 10 xs)
+begins_at xs l b = elim (cases_lt (index_of 10 xs) (length xs)) [
+  | inl h ↦ (h, long h (first_line xs h))
+  | inr h ↦ absurd (none (no_line xs h) b.lines_are)
+]
+  where
+    none : lines xs ≡ [] → lines xs ≡ l ∷ lines (drop (length l + 1) xs) → ⊥
+    none e f = let z : ◌≡◌ {A = ℕ} 0 1 = cc in omega arith
 
-  closed_left : at + r < length xs → is_closed (drop at xs) ≡ is_closed (drop (at + r + 1) xs)
-  closed_left h =
-      let rest = drop at xs in
-      let size : length rest ≡ length xs - at = length-drop at xs in
-      let more : index_of 10 rest < length rest = omega (arith, here) in
-      closed_behind rest more ∙ ap is_closed (drop-drop (suc (index_of 10 rest)) at xs ∙ ap (λ n. drop n xs) (omega (arith, here)))
+    long : index_of 10 xs < length xs → lines xs ≡ take (index_of 10 xs) xs ∷ lines (drop (suc (index_of 10 xs)) xs) → length l ≡ index_of 10 xs
+    long h e =
+        let f = b.lines_are in
+        let same : l ≡ take (index_of 10 xs) xs = cc in
+        ap length same ∙ length-take-le (index_of 10 xs) xs (omega arith)
 
-  closed_last : at + r ≡ length xs → at < length xs → is_closed (drop at xs) ≡ false
-  closed_last h some =
-      let size : length (drop at xs) ≡ length xs - at = length-drop at xs in
-      not_closed (drop at xs) (omega (arith, here)) (omega arith)
+closed_line : (xs l : List ℕ) → BeginsWithLine xs l → is_closed xs ≡ is_closed (drop (length l + 1) xs)
+closed_line xs l b =
+    let at = begins_at xs l b in
+    let next : suc (index_of 10 xs) ≡ length l + 1 = omega arith in
+    closed_behind xs at.0 ∙ ap (λ n. is_closed (drop n xs)) next
 
-  lines_behind : at + r < length xs → lines (drop at xs) ≡ take (at + r - at) (drop at xs) ∷ lines (drop (at + r + 1) xs)
-  lines_behind h =
-      lines_left xs at r inside is h
-      ∙ ap (λ n. take (at + r - at) (drop at xs) ∷ lines (drop n xs)) (omega (arith, line_size xs at r inside is h))
+unclosed : (xs : List ℕ) → lines xs ≡ [] → 0 < length xs → is_closed xs ≡ false
+unclosed xs e some = elim (cases_lt (index_of 10 xs) (length xs)) [
+  | inl h ↦ absurd (none (first_line xs h))
+  | inr h ↦ not_closed xs h some
+]
+  where
+    none : lines xs ≡ take (index_of 10 xs) xs ∷ lines (drop (suc (index_of 10 xs)) xs) → ⊥
+    none f = let z : ◌≡◌ {A = ℕ} 0 1 = cc in omega arith
 
 -- The number on an accepted line is that of a variable.
 known_if : {F : Type 0} (line n : ℕ) (option : Bool) (v w : Weighing F) → cond (not (known n v.variable && not option)) (Err (WeightLine line)) (Ok v) ≡ Ok w → known n w.variable ≡ true
@@ -111,46 +132,40 @@ module _ {F : Type 0} (reading : List ℕ → Option F) (rs : Roles) where
     abbrev whole : Reading F
     whole = read_on reading rs ones 1 (lines text) (is_closed text)
 
-    -- what is left says what the text says; so many lines begin before a place
-    pub record Going (sheet : List F) (line at : ℕ) : Type 0 where
-      pub reads : read_on reading rs sheet line (lines (drop at text)) (is_closed (drop at text)) ≡ whole
-      pub within : at ≤ length text
-      pub few : line ≤ at + 1
+    -- what is left says what the text says; a line ends in a byte
+    pub record Going (sheet : List F) (line : ℕ) (rest : List ℕ) : Type 0 where
+      pub reads : read_on reading rs sheet line (lines rest) (is_closed rest) ≡ whole
+      pub few : line + length rest ≤ length text + 1
       pub long : length sheet ≡ length ones
 
-    pub begins : Going ones 1 0
-    begins = record { reads = refl; within = omega arith; few = omega arith; long = refl }
+    pub begins : Going ones 1 text
+    begins = record { reads = refl; few = omega arith; long = refl }
 
-    module _ (sheet : List F) (line at : ℕ) (g : Going sheet line at) where
-      pub ends : length text ≤ at → whole ≡ read sheet
-      ends h = sym g.reads ∙ ap (λ xs. read_on reading rs sheet line (lines xs) (is_closed xs)) (drop_all at text h) ∙ read_over sheet line
+    module _ (sheet : List F) (line : ℕ) (rest : List ℕ) (g : Going sheet line rest) where
+      pub ends : length rest ≡ 0 → whole ≡ read sheet
+      ends h = sym g.reads ∙ ap (λ xs. read_on reading rs sheet line (lines xs) (is_closed xs)) (empty rest h) ∙ read_over sheet line
+        where
+          empty : (xs : List ℕ) → length xs ≡ 0 → xs ≡ []
+          empty [] h = refl
+          empty (x ∷ xs) h = absurd (omega arith)
 
-      module _ (r : ℕ) (is : r ≡ index_of 10 (take (length text - at) (drop at text))) where
-        pub ends_missing : at < length text → at + r ≡ length text → whole ≡ refused sheet (in_text reason.Line line)
-        ends_missing some h =
-            sym g.reads
-            ∙ ap₂ (read_on reading rs sheet line) (lines_none text at r g.within is h) (closed_last text at r g.within is h some)
-            ∙ read_missing sheet line
+      pub ends_missing : 0 < length rest → lines rest ≡ [] → whole ≡ refused sheet (in_text reason.Line line)
+      ends_missing some h = sym g.reads ∙ ap₂ (read_on reading rs sheet line) h (unclosed rest h some) ∙ read_missing sheet line
 
-        module _ (more : at + r ≡ length text → ⊥) where
-          inside : at + r < length text
-          inside = line_inside text at r g.within is more
+      module _ (l : List ℕ) (b : BeginsWithLine rest l) where
+        first : whole ≡ read_on reading rs sheet line (l ∷ lines (drop (length l + 1) rest)) (is_closed (drop (length l + 1) rest))
+        first = sym g.reads ∙ ap₂ (read_on reading rs sheet line) b.lines_are (closed_line rest l b)
 
-          first : whole ≡ read_on reading rs sheet line (take (at + r - at) (drop at text) ∷ lines (drop (at + r + 1) text)) (is_closed (drop (at + r + 1) text))
-          first =
-              sym g.reads
-              ∙ ap₂ (read_on reading rs sheet line) (lines_behind text at r g.within is inside) (closed_left text at r g.within is inside)
+        pub ends_refused : (f : Fault) → line_says reading rs line l ≡ Err f → whole ≡ refused sheet f
+        ends_refused f e = first ∙ read_refused sheet line _ _ _ f e
 
-          pub ends_refused : (f : Fault) → line_says reading rs line (take (at + r - at) (drop at text)) ≡ Err f → whole ≡ refused sheet f
-          ends_refused f e = first ∙ read_refused sheet line _ _ _ f e
-
-          pub goes_on : (w : Weighing F) → line_says reading rs line (take (at + r - at) (drop at text)) ≡ Ok w → Going (weighed sheet w.variable w.on w.off) (line + 1) (at + r + 1)
-          goes_on w e = record {
-            reads = sym (first ∙ read_taken sheet line _ _ _ w e);
-            within = omega (arith, inside);
-            few = omega (arith, g.few);
-            long = length-set _ _ _ ∙ length-set _ _ _ ∙ g.long;
-          }
+        pub goes_on : (w : Weighing F) (next : List F) (behind : List ℕ) → line_says reading rs line l ≡ Ok w → next ≡ weighed sheet w.variable w.on w.off → behind ≡ drop (length l + 1) rest
+            → Going next (line + 1) behind
+        goes_on w next behind e changed left = record {
+          reads = ap₂ (λ x xs. read_on reading rs x (line + 1) (lines xs) (is_closed xs)) changed left ∙ sym (first ∙ read_taken sheet line _ _ _ w e);
+          few = omega (arith, g.few, b.within, ap length left, length-drop (length l + 1) rest);
+          long = ap length changed ∙ length-set _ _ _ ∙ length-set _ _ _ ∙ g.long;
+        }
 
   -- the two ways to begin
   module _ (one : F) (sheet : List F) (text : List ℕ) where

@@ -1,6 +1,6 @@
 -- A study's calls, by its parts as they are lent: which refusals they can meet, what they answer, what they leave. Assumes
 -- nothing.
-use Rattle.std.specs.Prelude.{ℕ, List, ◌++◌, length, drop}
+use Rattle.std.specs.Prelude.{◌≡◌, ℕ, List, ◌++◌, length, drop}
 use Rattle.kinds.specs.Semiring.{Semiring}
 use Rattle.table.specs.declared.table.Table.{Table}
 use Rattle.table.specs.Count.{figure}
@@ -27,6 +27,10 @@ release_refusals t h v = release_tests (roles t) h.entries v
 -- the places that bound, trial and select may write
 abbrev pub places : Table → ℕ
 places t = pair_places (roles t) (circuit t)
+
+-- what stands behind those places is as before
+abbrev pub BehindKept : {F : Type 0} → Table → List F → List F → Type 0
+BehindKept t before after = drop (places t) after ≡ drop (places t) before
 
 module _ {F : Type 0} (t : Table) (h : Holds) (s : Sheet F) where
   abbrev pub figures : List F

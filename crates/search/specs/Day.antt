@@ -1,5 +1,5 @@
 -- The working day: a list of calls on one new study, and the book that is kept of it. Assumes nothing.
-use Rattle.std.specs.Prelude.{◌≡◌, ℕ, ◌≤◌, true, false, List, [], ◌∷◌, length, replicate, Some, None, Ok, Err, Option, Result, slice_set}
+use Rattle.std.specs.Prelude.{◌≡◌, ℕ, ◌≤◌, true, false, List, [], ◌∷◌, length, replicate, Ok, Err, Result, slice_set}
 use Rattle.kinds.specs.Semiring.{Semiring}
 use Rattle.table.specs.Circuit.{Shape, World}
 use Rattle.table.specs.Count.{figure}
@@ -11,10 +11,10 @@ use Rattle.passes.specs.Passes.{bound, plain_bound}
 use Rattle.passes.specs.Steps.{place}
 use Rattle.passes.specs.declared.holds.Entry.TheVariants.{Free}
 use Rattle.passes.specs.declared.holds.Holds.{Holds}
-use Rattle.search.specs.declared.call.Answer.{Answer}
-use Rattle.search.specs.declared.call.Answer.TheVariants.{Refused, Done, Value, Chosen}
 use Rattle.search.specs.declared.call.Call.{Call}
 use Rattle.search.specs.declared.call.Call.TheVariants.{Hold, Release, Weigh, Trial, Figure, Bound, Select}
+use Rattle.search.specs.declared.call.Reply.{Reply}
+use Rattle.search.specs.declared.call.Reply.TheVariants.{Done, Value, Chosen}
 use Rattle.search.specs.declared.fault.Fault.{Fault}
 use Rattle.search.specs.declared.fault.Fault.TheVariants.{StrayHold}
 use Rattle.search.specs.declared.found.Found.{Found}
@@ -22,7 +22,7 @@ use Rattle.search.specs.Faults.{fault_number}
 use Rattle.search.specs.Orders.{Order}
 use Rattle.search.specs.Select.{select}
 use Rattle.search.specs.Best.{NoHigher, Answers}
-use Rattle.search.specs.Study.{Tests, first_fit, changed_to, hold_tests, release_tests, weigh_tests, figure_tests, bound_tests, trial_tests}
+use Rattle.search.specs.Study.{Tests, answered, changed_to, hold_tests, release_tests, weigh_tests, figure_tests, bound_tests, trial_tests}
 
 -- what is kept of a study: an entry for each variable, and a list of figures
 pub record Book (F : Type 0) : Type 0 where
@@ -37,18 +37,9 @@ new sheet = record { holds = replicate 64 Free; sheet = sheet }
 abbrev pub book_of : {F : Type 0} → Holds → List F → Book F
 book_of h sheet = record { holds = h.entries; sheet = sheet }
 
--- a call's result as an answer
-abbrev pub done_answer : {F A : Type 0} → Result A Fault → Answer F
-done_answer (Ok u) = Done
-done_answer (Err f) = Refused f
-
-abbrev pub value_answer : {F : Type 0} → Result F Fault → Answer F
-value_answer (Ok x) = Value x
-value_answer (Err f) = Refused f
-
-abbrev pub chosen_answer : {F : Type 0} → Result (Found F) Fault → Answer F
-chosen_answer (Ok x) = Chosen x
-chosen_answer (Err f) = Refused f
+-- what a call is answered: a reply if it is accepted, or why it is refused
+abbrev pub Answer : Type 0 → Type 0
+Answer F = Result (Reply F) Fault
 
 -- the sheet with the two weights of a variable written
 abbrev pub weighed : {F : Type 0} → List F → ℕ → F → F → List F
@@ -110,16 +101,16 @@ module _ {F : Type 0} (R : Semiring F) (pick : Order F) (rs : Roles) (ss : List 
 
   -- what an accepted call is answered
   abbrev pub Says : Book F → Call F → Answer F → Type 0
-  Says b (Hold v s) a = a ≡ Done
-  Says b (Release v) a = a ≡ Done
-  Says b (Weigh v x y) a = a ≡ Done
-  Says b (Trial v s) a = (f : F) × (a ≡ Value f) × Bounded R rs ss (with_entry b.holds v (held s)) b.sheet f
-  Says b Figure a = (f : F) × (a ≡ Value f) × Counted R rs ss b f
-  Says b Bound a = (f : F) × (a ≡ Value f) × Bounded R rs ss b.holds b.sheet f
-  Says b Select a = (found : Found F) × (a ≡ Chosen found) × FoundBest b found
+  Says b (Hold v s) a = a ≡ Ok Done
+  Says b (Release v) a = a ≡ Ok Done
+  Says b (Weigh v x y) a = a ≡ Ok Done
+  Says b (Trial v s) a = (f : F) × (a ≡ Ok (Value f)) × Bounded R rs ss (with_entry b.holds v (held s)) b.sheet f
+  Says b Figure a = (f : F) × (a ≡ Ok (Value f)) × Counted R rs ss b f
+  Says b Bound a = (f : F) × (a ≡ Ok (Value f)) × Bounded R rs ss b.holds b.sheet f
+  Says b Select a = (found : Found F) × (a ≡ Ok (Chosen found)) × FoundBest b found
 
   -- what it is answered, worked out
-  abbrev pub reply : Book F → Call F → Answer F
+  abbrev pub reply : Book F → Call F → Reply F
   reply b (Hold v s) = Done
   reply b (Release v) = Done
   reply b (Weigh v x y) = Done
@@ -128,15 +119,11 @@ module _ {F : Type 0} (R : Semiring F) (pick : Order F) (rs : Roles) (ss : List 
   reply b Bound = Value (bound R rs b.sheet ss b.holds)
   reply b Select = Chosen (select R pick rs ss b.sheet b.holds)
 
-abbrev pub refused_or : {F : Type 0} → Option Fault → Answer F → Answer F
-refused_or None a = a
-refused_or (Some f) a = Refused f
-
 module _ {F : Type 0} (R : Semiring F) (pick : Order F) (rs : Roles) (ss : List Shape) (work-size : ℕ) where
   -- a call is answered by the first refusal that fits, and the book stays; if none fits, by what it asks for, and the book
   -- changes
   pub record Right (b : Book F) (c : Call F) (a : Answer F) (next : Book F) : Type 0 where
-    pub refused : (f : Fault) → First rs ss work-size b c f → (a ≡ Refused f) × (next ≡ b)
+    pub refused : (f : Fault) → First rs ss work-size b c f → (a ≡ Err f) × (next ≡ b)
     pub accepted : Passes rs ss work-size b c → Says R pick rs ss b c a × (next ≡ changed b c)
 
   -- a day: the book that it begins with, the calls, their answers, the book that it ends with
@@ -148,7 +135,7 @@ module _ {F : Type 0} (R : Semiring F) (pick : Order F) (rs : Roles) (ss : List 
   -- The answers, worked out.
 
   abbrev pub answer : Book F → Call F → Answer F
-  answer b c = refused_or (first_fit (tests rs ss work-size b c)) (reply R pick rs ss b c)
+  answer b c = answered (tests rs ss work-size b c) (reply R pick rs ss b c)
 
   abbrev pub answers : Book F → List (Call F) → List (Answer F)
   answers b [] = []
@@ -168,4 +155,4 @@ module _ {F : Type 0} (R : Semiring F) (pick : Order F) (rs : Roles) (ss : List 
   abbrev pub NoStrays : Type 0
   NoStrays =
       (sheet : List F) (end : Book F) (cs : List (Call F)) (given : List (Answer F)) → Day (new sheet) cs given end →
-      Among (Refused StrayHold) given → ⊥
+      Among (Err StrayHold) given → ⊥

@@ -1,5 +1,5 @@
 -- The loop of branch and bound: a branch is opened, a trail leads to it, and the loop goes back along it. Assumes nothing.
-use Rattle.std.specs.Prelude.{ℕ, zero, suc, false, cond, List, get_or, slice_index_or, slice_set}
+use Rattle.std.specs.Prelude.{ℕ, zero, suc, false, cond, List, Some, None, Option, get_or, slice_index_or, slice_set}
 use Rattle.kinds.specs.Semiring.{Semiring}
 use Rattle.passes.specs.Holding.{Entries}
 use Rattle.passes.specs.Marks.{with_entry}
@@ -12,6 +12,11 @@ use Rattle.search.specs.Select.{Branching, best_figure, opened, offered, branchi
 abbrev pub gate : ℕ → ℕ → ℕ
 gate zero v = 0
 gate (suc k) v = v
+
+-- the option of a number, of which 0 is none
+abbrev pub as_option : ℕ → Option ℕ
+as_option zero = None
+as_option (suc v) = Some (suc v)
 
 -- one branch opened: the option to branch on, or 0 if nothing follows, and what is found
 unfoldable pub turn : {F : Type 0} → Semiring F → Branching F → ℕ → Entries → Found F → ℕ × Found F

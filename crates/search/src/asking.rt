@@ -1,21 +1,20 @@
 //! The calls of a study that answer a figure. A refused call changes nothing.
-ghost use Rattle.std.specs.Prelude.{◌≡◌, ◌≤◌, false, length, drop, is_ok};
+ghost use Rattle.std.specs.Prelude.{◌≡◌, ◌≤◌, false, length, is_ok};
 ghost use Rattle.table.specs.Whole.{circuit, roles};
 ghost use Rattle.search.specs.Best.{Answers};
-ghost use Rattle.search.specs.Calls.{figure_refusals, bound_refusals, figure_held, bound_under, counted, paired, places};
+ghost use Rattle.search.specs.Calls.{figure_refusals, bound_refusals, figure_held, bound_under, counted, paired, BehindKept};
 ghost use Rattle.search.specs.Day.{Bounded};
 ghost use Rattle.search.specs.Select.{select as select_of};
 ghost use Rattle.search.specs.Study.{answered, changed_to};
 
-use crate::explore::explore;
 use crate::fault::Fault;
 use crate::found::Found;
 use crate::order::BranchingOrder;
-use crate::tests::{first_fit, short_counts, short_pairs, short_sheet, still_free, stray_hold};
+use crate::plan::Plan;
+use crate::tests::{pair_places, require_all_held, require_no_stray, require_sheet, require_work};
 use kinds::figure::Figure;
-use passes::bounds::pair_bound;
-use passes::figure::count_figure;
 use passes::holds::Holds;
+use passes::query::Query;
 use passes::sheet::Sheet;
 use table::table::Table;
 
@@ -27,19 +26,19 @@ pub fn figure<K: Figure>(
     work: &mut [K],
 ) -> Result<K, Fault>
     ensures answer { result ≡ answered (figure_refusals table.now holds.now sheet.now work.old) (figure_held table.now holds.now sheet.now K.ring) }
-    ensures behind { drop (places table.now) work.new ≡ drop (places table.now) work.old }
+    ensures behind { BehindKept table.now work.old work.new }
     ensures work { work.new ≡ changed_to (figure_refusals table.now holds.now sheet.now work.old) (counted table.now holds.now sheet.now K.ring work.old) work.old }
 {
-    let tests = [
-        short_sheet(table, sheet.figures.len()),
-        stray_hold(table, holds),
-        still_free(table, holds),
-        short_counts(table, work.len()),
-    ];
-    match first_fit(&tests) {
-        Some(fault) => Err(fault),
-        None => Ok(count_figure(table, sheet.figures, holds, work)),
-    }
+    require_sheet(table, sheet.figures.len())?;
+    require_no_stray(table, holds)?;
+    require_all_held(table, holds)?;
+    require_work(work.len(), table.nodes.len())?;
+    let query = Query {
+        table,
+        sheet: sheet.figures,
+        holds,
+    };
+    Ok(query.count_figure(work))
 }
 
 /// The bound under the holds. It leaves the pair pass in the work table.
@@ -50,19 +49,19 @@ pub fn bound<K: Figure>(
     work: &mut [K],
 ) -> Result<K, Fault>
     ensures answer { result ≡ answered (bound_refusals table.now holds.now sheet.now work.old) (bound_under table.now holds.now sheet.now K.ring holds.now.entries) }
-    ensures behind { drop (places table.now) work.new ≡ drop (places table.now) work.old }
+    ensures behind { BehindKept table.now work.old work.new }
     ensures bounded { Bounded K.ring (roles table.now) (circuit table.now) holds.now.entries sheet.now.figures.now (bound_under table.now holds.now sheet.now K.ring holds.now.entries) }
     ensures work { work.new ≡ changed_to (bound_refusals table.now holds.now sheet.now work.old) (paired table.now holds.now sheet.now K.ring work.old) work.old }
 {
-    let tests = [
-        short_sheet(table, sheet.figures.len()),
-        stray_hold(table, holds),
-        short_pairs(table, work.len()),
-    ];
-    match first_fit(&tests) {
-        Some(fault) => Err(fault),
-        None => Ok(pair_bound(table, sheet.figures, holds, work)),
-    }
+    require_sheet(table, sheet.figures.len())?;
+    require_no_stray(table, holds)?;
+    require_work(work.len(), pair_places(table))?;
+    let query = Query {
+        table,
+        sheet: sheet.figures,
+        holds,
+    };
+    Ok(query.pair_bound(work))
 }
 
 /// The best selection that keeps the holds, or none, and the number of openings.
@@ -75,16 +74,16 @@ pub fn select<K: Figure, O: BranchingOrder<K>>(
 ) -> Result<Found<K>, Fault>
     ensures answer { result ≡ answered (bound_refusals table.now holds.now sheet.now work.old) (select_of K.ring (O.picks order.now) (roles table.now) (circuit table.now) sheet.now.figures.now holds.now.entries) }
     ensures best { length (roles table.now) ≤ length holds.now.entries → Answers K.ring (roles table.now) (circuit table.now) sheet.now.figures.now holds.now.entries (select_of K.ring (O.picks order.now) (roles table.now) (circuit table.now) sheet.now.figures.now holds.now.entries).best }
-    ensures behind { drop (places table.now) work.new ≡ drop (places table.now) work.old }
+    ensures behind { BehindKept table.now work.old work.new }
     ensures refused { is_ok result ≡ false → work.new ≡ work.old }
 {
-    let tests = [
-        short_sheet(table, sheet.figures.len()),
-        stray_hold(table, holds),
-        short_pairs(table, work.len()),
-    ];
-    match first_fit(&tests) {
-        Some(fault) => Err(fault),
-        None => Ok(explore(table, sheet.figures, holds, work, order)),
-    }
+    require_sheet(table, sheet.figures.len())?;
+    require_no_stray(table, holds)?;
+    require_work(work.len(), pair_places(table))?;
+    let plan = Plan {
+        table,
+        sheet: sheet.figures,
+        order,
+    };
+    Ok(plan.explore(holds, work))
 }

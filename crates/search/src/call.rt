@@ -1,9 +1,8 @@
 //! The calls of a study, and their answers.
-use crate::fault::Fault;
 use crate::found::Found;
 
 /// What a study is asked. A variable goes by its number.
-#[derive(Clone, Copy)]
+#[derive(Clone, Copy, Debug, PartialEq, Eq)]
 pub enum Call<K> {
     Hold { variable: u16, on: bool },
     Release { variable: u16 },
@@ -14,10 +13,9 @@ pub enum Call<K> {
     Select,
 }
 
-/// What a study answers.
-#[derive(Clone, Copy)]
-pub enum Answer<K> {
-    Refused(Fault),
+/// What an accepted call is answered. A call that is not accepted is answered its `Fault`.
+#[derive(Clone, Copy, Debug, PartialEq, Eq)]
+pub enum Reply<K> {
     Done,
     Value(K),
     Chosen(Found<K>),

@@ -5,7 +5,7 @@ ghost use Rattle.table.specs.Whole.{circuit, roles};
 ghost use Rattle.search.specs.Listing.{choices_from, root_mentions, choices as choices_of};
 ghost use Rattle.search.specs.Orders.{told};
 ghost use Rattle.search.specs.Select.{named};
-ghost use Rattle.search.specs.Walk.{gate};
+ghost use Rattle.search.specs.Walk.{as_option, gate};
 
 use crate::choice::Choice;
 use crate::order::BranchingOrder;
@@ -29,18 +29,16 @@ fn list_choice(
     ensures listed { take result out.new ≡ take count out.old ++ choices_from (root_mentions (circuit table.now)) holds.now.entries index (variable ∷ []) }
     ensures few { result ≤ count + 1 }
 {
-    match holds.entry(variable) {
-        Entry::Free => {
-            let mentioned = table.does_mention(table.nodes.len() - 1, variable);
-            out[count] = Choice {
-                option: variable,
-                mentioned,
-                place: 2 * index + 1,
-            };
-            count + 1
-        }
-        Entry::On | Entry::Off => count,
+    if holds.entry(variable) != Entry::Free {
+        return count;
     }
+    let mentioned = table.does_mention(table.nodes.len() - 1, variable);
+    out[count] = Choice {
+        option: variable,
+        mentioned,
+        place: 2 * index + 1,
+    };
+    count + 1
 }
 
 /// Lists the free options by rising number: how many there are.
@@ -49,6 +47,7 @@ fn list_choices(table: &Table, holds: &Holds, out: &mut [Choice]) -> usize
     ensures listed { take result out.new ≡ choices_of (roles table.now) (circuit table.now) holds.now.entries }
     ensures few { result ≤ length (roles table.now) }
 {
+    // Two counts: places go by `index`, over all options, and `count` is that of the free ones.
     let mut count = 0;
     let mut index = 0;
     for i in 0..table.variables.as_slice().len() {
@@ -61,21 +60,22 @@ fn list_choices(table: &Table, holds: &Holds, out: &mut [Choice]) -> usize
     count
 }
 
-/// The option that an order names of the free ones, which are at most `levels`, or 0 if none is
-/// free. `part` is the root's part of the work table.
+/// The option that an order names of the free ones, which are at most `levels`, if one is free.
+/// `part` is the root's part of the work table.
 pub(crate) fn next_option<K: Figure, O: BranchingOrder<K>>(
     table: &Table,
     holds: &Holds,
     order: &O,
     levels: usize,
     part: &[K],
-) -> u16
+) -> Option<u16>
     requires { length part.now ≡ 2 * length (options (roles table.now)) + 1 }
-    ensures { result ≡ gate levels (named (O.picks order.now) (told K.ring part.now (choices_of (roles table.now) (circuit table.now) holds.now.entries))) }
+    ensures { result ≡ as_option (gate levels (named (O.picks order.now) (told K.ring part.now (choices_of (roles table.now) (circuit table.now) holds.now.entries)))) }
 {
     if levels == 0 {
-        return 0;
+        return None;
     }
+    // An array with a count: the engine has no heap.
     let mut choices = [Choice {
         option: 0,
         mentioned: false,
@@ -83,7 +83,7 @@ pub(crate) fn next_option<K: Figure, O: BranchingOrder<K>>(
     }; 64];
     let count = list_choices(table, holds, &mut choices);
     if count == 0 {
-        return 0;
+        return None;
     }
-    order.pick(&choices[0..count], part)
+    Some(order.pick(&choices[..count], part))
 }

@@ -1,13 +1,12 @@
 //! A working day: a list of calls on one new study.
-ghost use Rattle.std.specs.Prelude.{◌≡◌, min, ◌++◌, length, take, drop};
+ghost use Rattle.std.specs.Prelude.{◌≡◌, length, take, drop};
 ghost use Rattle.table.specs.Whole.{circuit, roles};
-ghost use Rattle.search.specs.Calls.{places};
-ghost use Rattle.search.specs.Day.{Day, DaysAgree, NoStrays, new, book_of, done_answer, value_answer, chosen_answer, answer, answers as answers_of, after, book_after};
+ghost use Rattle.search.specs.Calls.{BehindKept};
+ghost use Rattle.search.specs.Day.{Day, DaysAgree, NoStrays, new, book_of, answer, after};
 
 use crate::asking::{bound, figure, select};
-use crate::call::{Answer, Call};
+use crate::call::{Call, Reply};
 use crate::fault::Fault;
-use crate::found::Found;
 use crate::order::BranchingOrder;
 use crate::study::{hold, release, weigh};
 use crate::trial::trial;
@@ -15,36 +14,6 @@ use kinds::figure::Figure;
 use passes::holds::Holds;
 use passes::sheet::Sheet;
 use table::table::Table;
-
-/// The answer to a call that changes the study.
-fn done<K: Figure>(res: Result<(), Fault>) -> Answer<K>
-    ensures { result ≡ done_answer res }
-{
-    match res {
-        Ok(_) => Answer::Done,
-        Err(fault) => Answer::Refused(fault),
-    }
-}
-
-/// The answer to a call for a figure.
-fn value<K: Figure>(res: Result<K, Fault>) -> Answer<K>
-    ensures { result ≡ value_answer res }
-{
-    match res {
-        Ok(figure) => Answer::Value(figure),
-        Err(fault) => Answer::Refused(fault),
-    }
-}
-
-/// The answer to select.
-fn chosen<K: Figure>(res: Result<Found<K>, Fault>) -> Answer<K>
-    ensures { result ≡ chosen_answer res }
-{
-    match res {
-        Ok(found) => Answer::Chosen(found),
-        Err(fault) => Answer::Refused(fault),
-    }
-}
 
 /// Answers one call.
 pub fn ask<K: Figure, O: BranchingOrder<K>>(
@@ -54,21 +23,26 @@ pub fn ask<K: Figure, O: BranchingOrder<K>>(
     sheet: &mut Sheet<K>,
     work: &mut [K],
     call: Call<K>,
-) -> Answer<K>
+) -> Result<Reply<K>, Fault>
     ensures answer { result ≡ answer K.ring (O.picks order.now) (roles table.now) (circuit table.now) (length work.old) (book_of holds.old sheet.old.figures.now) call }
     ensures holds { holds.new.entries ≡ (after (roles table.now) (circuit table.now) (length work.old) (book_of holds.old sheet.old.figures.now) call).holds }
-    ensures work { drop (places table.now) work.new ≡ drop (places table.now) work.old }
+    ensures work { BehindKept table.now work.old work.new }
     ensures same { sheet.new.figures.ghost_name ≡ sheet.old.figures.ghost_name }
     ensures sheet { sheet.new.figures.now ≡ (after (roles table.now) (circuit table.now) (length work.old) (book_of holds.old sheet.old.figures.now) call).sheet }
 {
+    // A match, and no closures or `dyn`: a day lists its calls as plain data.
     match call {
-        Call::Hold { variable, on } => done(hold(table, holds, variable, on)),
-        Call::Release { variable } => done(release(table, holds, variable)),
-        Call::Weigh { variable, on, off } => done(weigh(table, holds, sheet, variable, on, off)),
-        Call::Trial { variable, on } => value(trial(table, holds, sheet, work, variable, on)),
-        Call::Figure => value(figure(table, holds, sheet, work)),
-        Call::Bound => value(bound(table, holds, sheet, work)),
-        Call::Select => chosen(select(table, holds, sheet, work, order)),
+        Call::Hold { variable, on } => hold(table, holds, variable, on).map(|_| Reply::Done),
+        Call::Release { variable } => release(table, holds, variable).map(|_| Reply::Done),
+        Call::Weigh { variable, on, off } => weigh(table, holds, sheet, variable, on, off).map(
+            |_| Reply::Done,
+        ),
+        Call::Trial { variable, on } => trial(table, holds, sheet, work, variable, on).map(
+            Reply::Value,
+        ),
+        Call::Figure => figure(table, holds, sheet, work).map(Reply::Value),
+        Call::Bound => bound(table, holds, sheet, work).map(Reply::Value),
+        Call::Select => select(table, holds, sheet, work, order).map(Reply::Chosen),
     }
 }
 
@@ -80,44 +54,20 @@ pub fn work_day<K: Figure, O: BranchingOrder<K>>(
     sheet: &mut Sheet<K>,
     work: &mut [K],
     calls: &[Call<K>],
-    answers: &mut [Answer<K>],
+    answers: &mut [Result<Reply<K>, Fault>],
 ) -> Holds
     ensures day { Day K.ring (O.picks order.now) (roles table.now) (circuit table.now) (length work.old) (new sheet.old.figures.now) (take (length answers.old) calls.now) (take (length calls.now) answers.new) (book_of result sheet.new.figures.now) }
     ensures only { DaysAgree K.ring (O.picks order.now) (roles table.now) (circuit table.now) (length work.old) }
     ensures own { NoStrays K.ring (O.picks order.now) (roles table.now) (circuit table.now) (length work.old) }
     ensures behind { drop (length calls.now) answers.new ≡ drop (length calls.now) answers.old }
-    ensures work { drop (places table.now) work.new ≡ drop (places table.now) work.old }
-    ensures same { sheet.new.figures.ghost_name ≡ sheet.old.figures.ghost_name }
-{
-    run_day(table, order, sheet, work, calls, answers)
-}
-
-/// Answers the calls in order, as many as there are places for answers. Gives the holds at the end.
-fn run_day<K: Figure, O: BranchingOrder<K>>(
-    table: &Table,
-    order: &O,
-    sheet: &mut Sheet<K>,
-    work: &mut [K],
-    calls: &[Call<K>],
-    answers: &mut [Answer<K>],
-) -> Holds
-    ensures answers { answers.new ≡ answers_of K.ring (O.picks order.now) (roles table.now) (circuit table.now) (length work.old) (new sheet.old.figures.now) (take (length answers.old) calls.now) ++ drop (length calls.now) answers.old }
-    ensures book { book_of result sheet.new.figures.now ≡ book_after K.ring (O.picks order.now) (roles table.now) (circuit table.now) (length work.old) (new sheet.old.figures.now) (take (length answers.old) calls.now) }
-    ensures work { drop (places table.now) work.new ≡ drop (places table.now) work.old }
+    ensures work { BehindKept table.now work.old work.new }
     ensures same { sheet.new.figures.ghost_name ≡ sheet.old.figures.ghost_name }
 {
     let mut holds = Holds::new();
-    let count = fewer(calls.len(), answers.len());
-    for i in 0..count {
-        let answer = ask(table, order, &mut holds, sheet, work, calls[i]);
-        answers[i] = answer;
+    let count = calls.len().min(answers.len());
+    // By place: of what is written through `zip` and `iter_mut` a proof knows the length alone.
+    for (i, call) in calls[..count].iter().enumerate() {
+        answers[i] = ask(table, order, &mut holds, sheet, work, *call);
     }
     holds
-}
-
-/// The lesser of two counts.
-fn fewer(a: usize, b: usize) -> usize
-    ensures { result ≡ min a b }
-{
-    if a < b { a } else { b }
 }

@@ -1,12 +1,12 @@
 //! Why a call of a study, or a weight text, is refused.
-ghost use Rattle.std.specs.Prelude.{◌≡◌};
 ghost use Rattle.search.specs.Faults.{fault_number, fault_place, fault_layer};
 
 use table::fault::Fault as TableFault;
 use text::fault::Layer;
+use text::refusal::Refusal;
 
 /// Why a call is refused: by a layer below, or for what it is given.
-#[derive(Clone, Copy)]
+#[derive(Clone, Copy, Debug, PartialEq, Eq)]
 pub enum Fault {
     Table(TableFault),
     /// The sheet has fewer than two figures for each variable.
@@ -29,11 +29,14 @@ pub enum Fault {
     ShortWork,
 }
 
-impl Fault {
-    /// The refusal's number.
-    pub fn number(self) -> u8
-        ensures { result ≡ fault_number self }
-    {
+impl Refusal for Fault {
+    ghost numbered = { fault_number };
+
+    ghost placed = { fault_place };
+
+    ghost layered = { fault_layer };
+
+    fn number(self) -> u8 {
         match self {
             Fault::Table(fault) => fault.number(),
             Fault::ShortSheet => 14,
@@ -48,10 +51,7 @@ impl Fault {
         }
     }
 
-    /// The line, the node or the variable of the fault, or 0.
-    pub fn place(self) -> usize
-        ensures { result ≡ fault_place self }
-    {
+    fn place(self) -> usize {
         match self {
             Fault::Table(fault) => fault.place(),
             Fault::NoOption { variable } => variable as usize,
@@ -63,10 +63,7 @@ impl Fault {
         }
     }
 
-    /// The layer that the fault comes from.
-    pub fn layer(self) -> Layer
-        ensures { result ≡ fault_layer self }
-    {
+    fn layer(self) -> Layer {
         match self {
             Fault::Table(fault) => fault.layer(),
             Fault::ShortSheet

@@ -60,10 +60,7 @@ impl<K: Figure> BranchingOrder<K> for StrongestLean {
         for c in free {
             best = leading(part, best, *c);
         }
-        match best {
-            Some(c) => c.option,
-            None => free[0].option,
-        }
+        best.unwrap_or(free[0]).option
     }
 }
 

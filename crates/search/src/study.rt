@@ -1,4 +1,6 @@
 //! The calls of a study on its holds and its sheet. A refused call changes nothing.
+// No struct holds a study: its parts are lent one by one, so that a call's signature shows what the
+// call may change.
 ghost use Rattle.std.specs.Prelude.{◌≡◌};
 ghost use Rattle.passes.specs.Marks.{held};
 ghost use Rattle.passes.specs.declared.holds.Entry.TheVariants.{Free};
@@ -8,7 +10,7 @@ ghost use Rattle.search.specs.Study.{answered, changed_to};
 
 use crate::fault::Fault;
 use crate::tests::{
-    first_fit, held_already, no_chance, no_option, not_held, short_sheet, stray_hold,
+    require_chance, require_free, require_held, require_no_stray, require_option, require_sheet,
 };
 use kinds::figure::Figure;
 use passes::holds::Holds;
@@ -20,18 +22,11 @@ pub fn hold(table: &Table, holds: &mut Holds, variable: u16, on: bool) -> Result
     ensures answer { result ≡ answered (hold_refusals table.now holds.old variable) tt }
     ensures holds { holds.new.entries ≡ changed_to (hold_refusals table.now holds.old variable) (entries_with holds.old variable (held on)) holds.old.entries }
 {
-    let tests = [
-        stray_hold(table, holds),
-        no_option(table, variable),
-        held_already(holds, variable),
-    ];
-    match first_fit(&tests) {
-        Some(fault) => Err(fault),
-        None => {
-            holds.hold(variable, on);
-            Ok(())
-        }
-    }
+    require_no_stray(table, holds)?;
+    require_option(table, variable)?;
+    require_free(holds, variable)?;
+    holds.hold(variable, on);
+    Ok(())
 }
 
 /// Sets a held option free.
@@ -39,18 +34,11 @@ pub fn release(table: &Table, holds: &mut Holds, variable: u16) -> Result<(), Fa
     ensures answer { result ≡ answered (release_refusals table.now holds.old variable) tt }
     ensures holds { holds.new.entries ≡ changed_to (release_refusals table.now holds.old variable) (entries_with holds.old variable Free) holds.old.entries }
 {
-    let tests = [
-        stray_hold(table, holds),
-        no_option(table, variable),
-        not_held(holds, variable),
-    ];
-    match first_fit(&tests) {
-        Some(fault) => Err(fault),
-        None => {
-            holds.release(variable);
-            Ok(())
-        }
-    }
+    require_no_stray(table, holds)?;
+    require_option(table, variable)?;
+    require_held(holds, variable)?;
+    holds.release(variable);
+    Ok(())
 }
 
 /// Writes a chance's two weights.
@@ -66,16 +54,9 @@ pub fn weigh<K: Figure>(
     ensures same { sheet.new.figures.ghost_name ≡ sheet.old.figures.ghost_name }
     ensures sheet { sheet.new.figures.now ≡ changed_to (weigh_refusals table.now holds.now sheet.old variable) (weighed sheet.old.figures.now variable on off) sheet.old.figures.now }
 {
-    let tests = [
-        short_sheet(table, sheet.figures.len()),
-        stray_hold(table, holds),
-        no_chance(table, variable),
-    ];
-    match first_fit(&tests) {
-        Some(fault) => Err(fault),
-        None => {
-            sheet.weigh(variable, on, off);
-            Ok(())
-        }
-    }
+    require_sheet(table, sheet.figures.len())?;
+    require_no_stray(table, holds)?;
+    require_chance(table, variable)?;
+    sheet.weigh(variable, on, off);
+    Ok(())
 }

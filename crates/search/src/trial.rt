@@ -1,19 +1,20 @@
 //! A trial: the bound as it would be with one option held.
-ghost use Rattle.std.specs.Prelude.{◌≡◌, ◌+◌, ◌*◌, ◌<◌, ◌≤◌, false, length, drop, is_ok};
-ghost use Rattle.table.specs.Sound.{options};
+ghost use Rattle.std.specs.Prelude.{◌≡◌, ◌*◌, ◌<◌, ◌≤◌, false, length, is_ok};
 ghost use Rattle.table.specs.Whole.{circuit, roles};
 ghost use Rattle.passes.specs.Marks.{with_entry, held};
 ghost use Rattle.passes.specs.Passes.{bound as bound_of};
-ghost use Rattle.search.specs.Calls.{entries_with, trial_refusals, bound_under, places};
+ghost use Rattle.search.specs.Calls.{entries_with, trial_refusals, bound_under, places, BehindKept};
 ghost use Rattle.search.specs.Day.{Bounded};
 ghost use Rattle.search.specs.Study.{answered};
 
 use crate::fault::Fault;
 use crate::guard::Trial;
-use crate::tests::{first_fit, held_already, no_option, short_pairs, short_sheet, stray_hold};
+use crate::tests::{
+    pair_places, require_free, require_no_stray, require_option, require_sheet, require_work,
+};
 use kinds::figure::Figure;
-use passes::bounds::pair_bound;
 use passes::holds::Holds;
+use passes::query::Query;
 use passes::sheet::Sheet;
 use table::table::Table;
 
@@ -27,11 +28,11 @@ fn bound_if_held<K: Figure>(
     on: bool,
 ) -> K
     requires known { (0 < variable) × (variable ≤ 64) }
-    requires room { length (circuit table.now) * (2 * length (options (roles table.now)) + 1) ≤ length work.old }
+    requires room { places table.now ≤ length work.old }
     requires sheet { 2 * length (roles table.now) ≤ length sheet.now }
     ensures value { result ≡ bound_of K.ring (roles table.now) sheet.now (circuit table.now) (with_entry holds.old.entries variable (held on)) }
     ensures same { holds.new.entries ≡ holds.old.entries }
-    ensures behind { drop (places table.now) work.new ≡ drop (places table.now) work.old }
+    ensures behind { BehindKept table.now work.old work.new }
 {
     let place = variable as usize - 1;
     let before = holds.entries[place];
@@ -41,7 +42,12 @@ fn bound_if_held<K: Figure>(
         place,
         before,
     };
-    pair_bound(table, sheet, trial.holds, work)
+    Query {
+        table,
+        sheet,
+        holds: trial.holds,
+    }
+    .pair_bound(work)
 }
 
 /// The bound as it would be with a free option held on (or off). The holds are as before on every
@@ -57,18 +63,13 @@ pub fn trial<K: Figure>(
     ensures answer { result ≡ answered (trial_refusals table.now holds.old sheet.now work.old variable) (bound_under table.now holds.old sheet.now K.ring (entries_with holds.old variable (held on))) }
     ensures bounded { Bounded K.ring (roles table.now) (circuit table.now) (entries_with holds.old variable (held on)) sheet.now.figures.now (bound_under table.now holds.old sheet.now K.ring (entries_with holds.old variable (held on))) }
     ensures holds { holds.new.entries ≡ holds.old.entries }
-    ensures behind { drop (places table.now) work.new ≡ drop (places table.now) work.old }
+    ensures behind { BehindKept table.now work.old work.new }
     ensures refused { is_ok result ≡ false → work.new ≡ work.old }
 {
-    let tests = [
-        short_sheet(table, sheet.figures.len()),
-        stray_hold(table, holds),
-        no_option(table, variable),
-        held_already(holds, variable),
-        short_pairs(table, work.len()),
-    ];
-    match first_fit(&tests) {
-        Some(fault) => Err(fault),
-        None => Ok(bound_if_held(table, holds, sheet.figures, work, variable, on)),
-    }
+    require_sheet(table, sheet.figures.len())?;
+    require_no_stray(table, holds)?;
+    require_option(table, variable)?;
+    require_free(holds, variable)?;
+    require_work(work.len(), pair_places(table))?;
+    Ok(bound_if_held(table, holds, sheet.figures, work, variable, on))
 }

@@ -3,26 +3,24 @@ ghost use Rattle.std.specs.Prelude.{◌≡◌, ◌<◌, ◌≤◌, length, repli
 ghost use Rattle.text.specs.Format.{overwritten};
 ghost use Rattle.text.specs.Lines.{fields};
 ghost use Rattle.table.specs.Whole.{roles};
-ghost use Rattle.search.specs.Weights.{field_at, is_weight_line, weight_field, form_says, in_text, line_says, weights_say};
+ghost use Rattle.search.specs.Weights.{field_at, is_weight_line, weight_field, form_says, line_says, weights_say};
 
 use crate::fault::Fault;
-use crate::tests::no_chance;
+use crate::tests::{require_chance, require_sheet};
 use crate::weighing::Weighing;
 use kinds::figure::Figure;
 use kinds::written::Written;
 use passes::sheet::Sheet;
-use table::fault::Fault as TableFault;
 use table::table::Table;
 use text::fault::{Fault as TextFault, Reason};
-use text::fields::{NEWLINE, all_printable, field, field_count, find};
+use text::fields::{all_printable, field, field_count, first_line};
 use text::lines::number_field;
-use text::variables::same_bytes;
 
 /// Whether a line has its bytes, its fields and its letter.
 fn is_weight_line(text: &[u8]) -> bool
     ensures { result ≡ is_weight_line text.now }
 {
-    all_printable(text) && field_count(text) == 4 && same_bytes(field(text, 0), b"W")
+    all_printable(text) && field_count(text) == 4 && field(text, 0) == b"W".as_slice()
 }
 
 /// The weight in the field `k` of a line.
@@ -30,10 +28,7 @@ fn read_weight<K: Written>(text: &[u8], k: usize) -> Result<K, Reason>
     requires { k < length (fields text.now) }
     ensures { result ≡ weight_field K.reading (field_at k text.now) }
 {
-    match K::read(field(text, k)) {
-        Some(weight) => Ok(weight),
-        None => Err(Reason::Number),
-    }
+    K::read(field(text, k)).ok_or(Reason::Number)
 }
 
 /// What a line says by its form.
@@ -49,26 +44,13 @@ fn read_weighing<K: Written>(text: &[u8]) -> Result<Weighing<K>, Reason>
     Ok(Weighing { variable, on, off })
 }
 
-/// The fault of a line whose form is refused.
-fn in_text(reason: Reason, line: usize) -> Fault
-    ensures { result ≡ in_text reason line }
-{
-    Fault::Table(TableFault::Text(TextFault::Line { reason, line }))
-}
-
 /// What the line of this number says of a table: its form is judged before its chance.
 fn weight_line<K: Written>(table: &Table, text: &[u8], line: usize) -> Result<Weighing<K>, Fault>
     ensures { result ≡ line_says K.reading (roles table.now) line text.now }
 {
-    match read_weighing(text) {
-        Ok(weighing) => {
-            if no_chance(table, weighing.variable).0 {
-                return Err(Fault::WeightLine { line });
-            }
-            Ok(weighing)
-        }
-        Err(reason) => Err(in_text(reason, line)),
-    }
+    let weighing = read_weighing(text).map_err(|reason| TextFault::Line { reason, line })?;
+    require_chance(table, weighing.variable).map_err(|_| Fault::WeightLine { line })?;
+    Ok(weighing)
 }
 
 /// Writes one to the first `count` places.
@@ -76,9 +58,7 @@ fn write_ones<K: Figure>(figures: &mut [K], count: usize)
     requires { count ≤ length figures.old }
     ensures { figures.new ≡ overwritten (replicate count K.ring.one) figures.old }
 {
-    for i in 0..count {
-        figures[i] = K::one();
-    }
+    figures[..count].fill_with(|| K::one());
 }
 
 /// Reads a weight text: writes one to every variable's two places and then the weights of each
@@ -93,22 +73,20 @@ pub fn read_weights<K: Written>(
     ensures answer { result ≡ (weights_say K.reading (roles table.now) K.ring.one sheet.old.figures.now text.now).answer }
     ensures sheet { sheet.new.figures.now ≡ (weights_say K.reading (roles table.now) K.ring.one sheet.old.figures.now text.now).sheet }
 {
+    require_sheet(table, sheet.figures.len())?;
     let count = 2 * table.variables.as_slice().len();
-    if sheet.figures.len() < count {
-        return Err(Fault::ShortSheet);
-    }
     write_ones(sheet.figures, count);
     let mut line = 1;
-    let mut start = 0;
-    while start < text.len() {
-        let end = start + find(&text[start..], NEWLINE);
-        if end == text.len() {
-            return Err(in_text(Reason::Line, line));
-        }
-        let weighing = weight_line(table, &text[start..end], line)?;
+    let mut rest = text;
+    while !rest.is_empty() {
+        let Some(content) = first_line(rest) else {
+            let reason = Reason::Line;
+            return Err(Fault::from(TextFault::Line { reason, line }));
+        };
+        let weighing = weight_line(table, content, line)?;
         sheet.weigh(weighing.variable, weighing.on, weighing.off);
+        rest = &rest[content.len() + 1..];
         line += 1;
-        start = end + 1;
     }
     Ok(())
 }

@@ -1,14 +1,15 @@
 //! Working days on plant K.
 use crate::shown::{show_answer, show_figures, show_holds};
 use crate::spoken::call_of;
-use crate::steps::{MARK, Step};
+use crate::steps::{MARK, Step, table_of};
 use kinds::value::Tally;
 use kinds::written::Written;
 use passes::sheet::Sheet;
 use plants::files::PLANT;
 use plants::stores::Stores;
-use search::call::{Answer, Call};
+use search::call::{Call, Reply};
 use search::day::work_day;
+use search::fault::Fault;
 use search::number_order::NumberOrder;
 use search::order::BranchingOrder;
 use search::strongest_lean::StrongestLean;
@@ -16,8 +17,6 @@ use std::alloc::Global;
 use std::fmt::Display;
 use std::process::Abort;
 use std::test::Fail;
-use table::check::check as check_table;
-use table::table::Table;
 
 const DAY: &[Step] = &[
     ("figure", "study 20 at 0"),
@@ -57,10 +56,10 @@ const ENDS: &[(usize, &str, &str)] = &[
 fn calls_of(steps: &[Step], heap: Global, case: &impl Display) -> Result<Vec<Call<Tally>>, Fail> {
     let mut calls = Vec::new(heap);
     for (spoken, _) in steps {
-        match call_of(*spoken) {
-            Some(call) => calls.push(call)?,
-            None => return Err(Fail::new(format_args!("no call: {case}"))),
-        }
+        let Some(call) = call_of(*spoken) else {
+            return Err(Fail::new(format_args!("no call: {case}")));
+        };
+        calls.push(call)?;
     }
     Ok(calls)
 }
@@ -68,15 +67,12 @@ fn calls_of(steps: &[Step], heap: Global, case: &impl Display) -> Result<Vec<Cal
 // Answers stand in the first places; behind the day's calls the mark stays.
 fn check_answers(
     rt: &impl Abort,
-    answers: &[Answer<Tally>],
+    answers: &[Result<Reply<Tally>, Fault>],
     heap: Global,
     case: &impl Display,
 ) -> Result<(), Fail> {
     for (i, answer) in answers.iter().enumerate() {
-        let due = match DAY.get(i) {
-            Some(step) => step.1,
-            None => "901",
-        };
+        let due = DAY.get(i).map_or("901", |step| step.1);
         let shown = show_answer(*answer, heap)?;
         assert_eq!(rt; shown.as_str(), due, "call {i}: {case}");
     }
@@ -92,15 +88,10 @@ fn check_day<O: BranchingOrder<Tally>>(
     heap: Global,
     case: &impl Display,
 ) -> Result<(), Fail> {
-    let nodes = plant.nodes.as_slice();
-    let children = plant.children.as_slice();
-    let table = match check_table(nodes, children, &plant.variables) {
-        Ok(sets) => Table::new(nodes, children, plant.variables, sets),
-        Err(_) => return Err(Fail::new(format_args!("refused: {case}"))),
-    };
+    let table = table_of(plant, case)?;
     let (places, held, weights) = end;
     let calls = calls_of(DAY, heap, case)?;
-    let mut answers = vec![in heap; Answer::Value(MARK); places]?;
+    let mut answers = vec![in heap; Ok(Reply::Value(MARK)); places]?;
     let mut figures = [MARK; 4];
     let mut work = [MARK; 21];
     let holds = work_day(

@@ -1,6 +1,6 @@
 //! Select against all selections, one by one.
 use crate::shown::show_holds;
-use crate::steps::{Step, run_steps};
+use crate::steps::{Step, run_steps, table_of};
 use kinds::figure::Figure;
 use kinds::value::{Peak, Tally};
 use kinds::written::Written;
@@ -16,7 +16,6 @@ use std::alloc::Global;
 use std::fmt::Display;
 use std::process::Abort;
 use std::test::Fail;
-use table::check::check as check_table;
 use table::table::Table;
 
 // Sheets: for each variable, by rising number, its on and its off weight. The first four variables
@@ -46,76 +45,52 @@ fn holds_at(number: u64) -> Holds {
     holds
 }
 
-fn number_of(holds: &Holds) -> u64 {
-    let mut number = 0u64;
-    for before in 0..4u16 {
-        let digit = match holds.entry(4 - before) {
-            Entry::Free => 0u64,
-            Entry::On => 1,
-            Entry::Off => 2,
-        };
-        number = number.wrapping_mul(3).wrapping_add(digit);
-    }
-    number
-}
-
-// Whether a selection keeps the holds.
-fn is_kept(number: u64, selection: u64) -> bool {
-    let mut held = number;
-    let mut chosen = selection;
-    let mut kept = true;
-    for _ in 1..5u16 {
-        if held % 3 != 0 && held % 3 != chosen % 3 {
-            kept = false;
-        }
-        held = held / 3;
-        chosen = chosen / 3;
-    }
-    kept
+// Whether a selection keeps what is held.
+fn is_kept(held: &Holds, chosen: &Holds) -> bool {
+    (1..5u16).all(|v| held.entry(v) == Entry::Free || held.entry(v) == chosen.entry(v))
 }
 
 fn lowest_free(holds: &Holds) -> Option<u16> {
-    for variable in 1..5u16 {
-        if let Entry::Free = holds.entry(variable) {
-            return Some(variable);
-        }
-    }
-    None
+    (1..5u16).find(|v| holds.entry(*v) == Entry::Free)
 }
 
 fn sheet_of<K: Written>(text: &str, heap: Global) -> Result<Vec<K>, Fail> {
     let mut figures = Vec::new(heap);
     for word in text.split_whitespace() {
-        match K::read(word.as_bytes()) {
-            Some(figure) => figures.push(figure)?,
-            None => return Err(Fail::new("no figure")),
-        }
+        let Some(figure) = K::read(word.as_bytes()) else {
+            return Err(Fail::new("no figure"));
+        };
+        figures.push(figure)?;
     }
     Ok(figures)
 }
 
-// The figures of the holds that are selections, and none for the others.
-fn figures_of<K: Written>(
+// A selection of the options, and its figure.
+type Selected<K> = (Holds, K);
+
+// Every selection: figure refuses the holds that leave an option free.
+fn selections_of<K: Written>(
     table: &Table,
     sheet: &Sheet<K>,
     work: &mut [K],
     heap: Global,
-) -> Result<Vec<Option<K>>, Fail> {
-    let mut figures = Vec::new(heap);
+) -> Result<Vec<Selected<K>>, Fail> {
+    let mut selections = Vec::new(heap);
     for number in 0..81u64 {
-        figures.push(figure(table, &holds_at(number), sheet, work).ok())?;
+        let holds = holds_at(number);
+        if let Ok(own) = figure(table, &holds, sheet, work) {
+            selections.push((holds, own))?;
+        }
     }
-    Ok(figures)
+    Ok(selections)
 }
 
 // The highest figure of the selections that keep the holds, or zero.
-fn highest<K: Written>(number: u64, figures: &[Option<K>]) -> K {
+fn highest<K: Written>(held: &Holds, selections: &[Selected<K>]) -> K {
     let mut best = K::zero();
-    for (selection, entry) in figures.iter().enumerate() {
-        if let Some(figure) = *entry {
-            if is_kept(number, selection as u64) && !figure.no_higher(best) {
-                best = figure;
-            }
+    for (chosen, own) in selections {
+        if is_kept(held, chosen) && !own.no_higher(best) {
+            best = *own;
         }
     }
     best
@@ -143,13 +118,10 @@ fn open<K: Written>(
     if reach.no_higher(best) {
         return Some(Walk { best, openings });
     }
-    let variable = match lowest_free(holds) {
-        Some(variable) => variable,
-        None => {
-            let own = figure(table, holds, sheet, work).ok()?;
-            let best = if own.no_higher(best) { best } else { own };
-            return Some(Walk { best, openings });
-        }
+    let Some(variable) = lowest_free(holds) else {
+        let own = figure(table, holds, sheet, work).ok()?;
+        let best = if own.no_higher(best) { best } else { own };
+        return Some(Walk { best, openings });
     };
     if levels == 0 {
         return None;
@@ -185,26 +157,24 @@ fn check_alike<K: Written>(
 fn check_found<K: Written>(
     rt: &impl Abort,
     found: Found<K>,
-    number: u64,
-    figures: &[Option<K>],
+    held: &Holds,
+    selections: &[Selected<K>],
     heap: Global,
     case: &impl Display,
 ) -> Result<(), Fail> {
     assert!(rt; found.openings > 0, "{case}");
-    let best = highest(number, figures);
-    let selection = match found.best {
-        Some(selection) => selection,
-        None => {
-            assert!(rt; best.no_higher(K::zero()), "none: {case}");
-            return Ok(());
-        }
+    let best = highest(held, selections);
+    let Some(selection) = found.best else {
+        assert!(rt; best.no_higher(K::zero()), "none: {case}");
+        return Ok(());
     };
     assert!(rt; !best.no_higher(K::zero()), "some: {case}");
-    let chosen = number_of(&selection.holds);
-    assert!(rt; is_kept(number, chosen), "kept: {case}");
-    let own = match figures.get(chosen as usize) {
-        Some(Some(figure)) => *figure,
-        _ => return Err(Fail::new(format_args!("no selection: {case}"))),
+    assert!(rt; is_kept(held, &selection.holds), "kept: {case}");
+    let Some((chosen, own)) = selections
+        .iter()
+        .find(|(chosen, _)| is_kept(chosen, &selection.holds))
+    else {
+        return Err(Fail::new(format_args!("no selection: {case}")));
     };
     check_alike(
         rt,
@@ -216,12 +186,12 @@ fn check_found<K: Written>(
     check_alike(
         rt,
         selection.figure,
-        own,
+        *own,
         heap,
         &format_args!("its own: {case}"),
     )?;
     let named = show_holds(&selection.holds, heap)?;
-    let options = show_holds(&holds_at(chosen), heap)?;
+    let options = show_holds(chosen, heap)?;
     assert_eq!(rt; named.as_str(), options.as_str(), "{case}");
     Ok(())
 }
@@ -232,40 +202,35 @@ fn check_holds<K: Written>(
     table: &Table,
     sheet: &Sheet<K>,
     work: &mut [K],
-    number: u64,
-    figures: &[Option<K>],
+    held: &Holds,
+    selections: &[Selected<K>],
     heap: Global,
     case: &impl Display,
 ) -> Result<(), Fail> {
-    let holds = holds_at(number);
-    let lean = match select(table, &holds, sheet, work, &StrongestLean) {
-        Ok(found) => found,
-        Err(_) => return Err(Fail::new(format_args!("select is refused: {case}"))),
+    let Ok(lean) = select(table, held, sheet, work, &StrongestLean) else {
+        return Err(Fail::new(format_args!("select is refused: {case}")));
     };
     check_found(
         rt,
         lean,
-        number,
-        figures,
+        held,
+        selections,
         heap,
         &format_args!("strongest lean: {case}"),
     )?;
-    let found = match select(table, &holds, sheet, work, &NumberOrder) {
-        Ok(found) => found,
-        Err(_) => return Err(Fail::new(format_args!("select is refused: {case}"))),
+    let Ok(found) = select(table, held, sheet, work, &NumberOrder) else {
+        return Err(Fail::new(format_args!("select is refused: {case}")));
     };
-    check_found(rt, found, number, figures, heap, case)?;
+    check_found(rt, found, held, selections, heap, case)?;
     let start = Walk {
         best: K::zero(),
         openings: 0,
     };
-    match open(table, sheet, work, &holds, 4, start) {
-        Some(end) => {
-            assert_eq!(rt; found.openings, end.openings, "openings: {case}");
-            Ok(())
-        }
-        None => Err(Fail::new(format_args!("the walk is refused: {case}"))),
-    }
+    let Some(end) = open(table, sheet, work, held, 4, start) else {
+        return Err(Fail::new(format_args!("the walk is refused: {case}")));
+    };
+    assert_eq!(rt; found.openings, end.openings, "openings: {case}");
+    Ok(())
 }
 
 // Select on a sheet, for all 81 ways to hold.
@@ -275,26 +240,21 @@ fn check_sheet<K: Written + Clone>(
     text: &str,
     heap: Global,
 ) -> Result<(), Fail> {
-    let nodes = stores.nodes.as_slice();
-    let children = stores.children.as_slice();
-    let table = match check_table(nodes, children, &stores.variables) {
-        Ok(sets) => Table::new(nodes, children, stores.variables, sets),
-        Err(_) => return Err(Fail::new("refused")),
-    };
+    let table = table_of(stores, &text)?;
     let mut weights = sheet_of::<K>(text, heap)?;
     let sheet = Sheet {
         figures: weights.as_mut_slice(),
     };
     let mut work = vec![in heap; K::zero(); 297]?;
-    let figures = figures_of(&table, &sheet, work.as_mut_slice(), heap)?;
+    let selections = selections_of(&table, &sheet, work.as_mut_slice(), heap)?;
     for number in 0..81u64 {
         check_holds(
             rt,
             &table,
             &sheet,
             work.as_mut_slice(),
-            number,
-            figures.as_slice(),
+            &holds_at(number),
+            selections.as_slice(),
             heap,
             &format_args!("sheet {text}, holds {number}"),
         )?;

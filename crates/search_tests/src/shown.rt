@@ -1,11 +1,12 @@
 //! Holds, figures and answers as short texts.
 use kinds::written::Written;
 use passes::holds::{Entry, Holds};
-use search::call::Answer;
+use search::call::Reply;
 use search::fault::Fault;
 use search::found::Found;
 use std::alloc::{AllocError, Global};
 use text::fault::Layer;
+use text::refusal::Refusal;
 
 /// What is held, by rising number: `+1-3` for 1 on and 3 off.
 pub(crate) fn show_holds(holds: &Holds, heap: Global) -> Result<String, AllocError> {
@@ -55,15 +56,15 @@ fn show_found<K: Written>(found: Found<K>, heap: Global) -> Result<String, Alloc
     }
 }
 
-/// What a study answers.
+/// What a call is answered.
 pub(crate) fn show_answer<K: Written>(
-    answer: Answer<K>,
+    answer: Result<Reply<K>, Fault>,
     heap: Global,
 ) -> Result<String, AllocError> {
     match answer {
-        Answer::Refused(fault) => show_fault(fault, heap),
-        Answer::Done => String::from_str(heap, "done"),
-        Answer::Value(figure) => figure.write(heap),
-        Answer::Chosen(found) => show_found(found, heap),
+        Ok(Reply::Done) => String::from_str(heap, "done"),
+        Ok(Reply::Value(figure)) => figure.write(heap),
+        Ok(Reply::Chosen(found)) => show_found(found, heap),
+        Err(fault) => show_fault(fault, heap),
     }
 }

@@ -4,19 +4,11 @@ use search::call::Call;
 
 // The word of this number, counted from 0, or an empty one.
 fn word(text: &str, number: usize) -> &str {
-    for (i, word) in text.split_whitespace().enumerate() {
-        if i == number {
-            return word;
-        }
-    }
-    ""
+    text.split_whitespace().nth(number).unwrap_or("")
 }
 
 fn variable_of(text: &str) -> Option<u16> {
-    match word(text, 1).parse::<u16>() {
-        Ok(variable) => Some(variable),
-        Err(_) => None,
-    }
+    word(text, 1).parse::<u16>().ok()
 }
 
 fn side_of(text: &str) -> Option<bool> {

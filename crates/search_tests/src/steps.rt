@@ -6,14 +6,13 @@ use kinds::written::Written;
 use passes::holds::Holds;
 use passes::sheet::Sheet;
 use plants::stores::Stores;
-use search::call::{Answer, Call};
+use search::call::Call;
 use search::day::ask;
 use search::order::BranchingOrder;
-use std::alloc::Global;
+use std::alloc::{AllocError, Global};
 use std::fmt::Display;
 use std::process::Abort;
 use std::test::Fail;
-use table::check::check as check_table;
 use table::table::Table;
 
 /// What stands in a store before any call writes to it.
@@ -34,8 +33,35 @@ pub(crate) fn holds_of(held: &[Held]) -> Holds {
     holds
 }
 
-fn is_refused<K: Written>(answer: Answer<K>) -> bool {
-    matches!(answer, Answer::Refused(_))
+/// The table of these parts.
+pub(crate) fn table_of<'a>(stores: &'a Stores, case: &impl Display) -> Result<Table<'a>, Fail> {
+    let nodes = stores.nodes.as_slice();
+    let children = stores.children.as_slice();
+    let Ok(table) = Table::check(nodes, children, stores.variables) else {
+        return Err(Fail::new(format_args!("refused: {case}")));
+    };
+    Ok(table)
+}
+
+// What the calls of a study may change, as texts.
+#[derive(Drop)]
+struct Shown {
+    holds: String,
+    sheet: String,
+    work: String,
+}
+
+fn show_study<K: Written>(
+    holds: &Holds,
+    sheet: &Sheet<K>,
+    work: &[K],
+    heap: Global,
+) -> Result<Shown, AllocError> {
+    Ok(Shown {
+        holds: show_holds(holds, heap)?,
+        sheet: show_figures(sheet.figures, heap)?,
+        work: show_figures(work, heap)?,
+    })
 }
 
 fn may_hold<K: Written>(call: Call<K>) -> bool {
@@ -60,40 +86,33 @@ fn run_step<K: Written, O: BranchingOrder<K>>(
     case: &impl Display,
 ) -> Result<(), Fail> {
     let (spoken, due) = step;
-    let call = match call_of(spoken) {
-        Some(call) => call,
-        None => {
-            return Err(Fail::new(format_args!("no call: call {number}: {spoken}: {case}")));
-        }
+    let Some(call) = call_of(spoken) else {
+        return Err(Fail::new(format_args!("no call: call {number}: {spoken}: {case}")));
     };
-    let held = show_holds(holds, heap)?;
-    let weights = show_figures(sheet.figures, heap)?;
-    let worked = show_figures(work, heap)?;
+    let before = show_study(holds, sheet, work, heap)?;
     let answer = ask(table, order, holds, sheet, work, call);
+    let after = show_study(holds, sheet, work, heap)?;
     let shown = show_answer(answer, heap)?;
     assert_eq!(rt; shown.as_str(), due, "call {number}: {spoken}: {case}");
-    let refused = is_refused(answer);
+    let refused = answer.is_err();
     if refused || !may_hold(call) {
-        let now = show_holds(holds, heap)?;
         assert_eq!(rt;
-            now.as_str(),
-            held.as_str(),
+            after.holds.as_str(),
+            before.holds.as_str(),
             "holds: call {number}: {spoken}: {case}"
         );
     }
     if refused || !may_weigh(call) {
-        let now = show_figures(sheet.figures, heap)?;
         assert_eq!(rt;
-            now.as_str(),
-            weights.as_str(),
+            after.sheet.as_str(),
+            before.sheet.as_str(),
             "sheet: call {number}: {spoken}: {case}"
         );
     }
     if refused || may_hold(call) || may_weigh(call) {
-        let now = show_figures(work, heap)?;
         assert_eq!(rt;
-            now.as_str(),
-            worked.as_str(),
+            after.work.as_str(),
+            before.work.as_str(),
             "work table: call {number}: {spoken}: {case}"
         );
     }
@@ -112,12 +131,7 @@ pub(crate) fn run_steps<K: Written, O: BranchingOrder<K>>(
     heap: Global,
     case: &impl Display,
 ) -> Result<(), Fail> {
-    let nodes = stores.nodes.as_slice();
-    let children = stores.children.as_slice();
-    let table = match check_table(nodes, children, &stores.variables) {
-        Ok(sets) => Table::new(nodes, children, stores.variables, sets),
-        Err(_) => return Err(Fail::new(format_args!("refused: {case}"))),
-    };
+    let table = table_of(stores, case)?;
     let mut sheet = Sheet { figures };
     for (i, step) in steps.iter().enumerate() {
         run_step(

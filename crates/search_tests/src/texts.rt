@@ -1,6 +1,6 @@
 //! Weight texts.
 use crate::shown::{show_fault, show_figures};
-use crate::steps::MARK;
+use crate::steps::{MARK, table_of};
 use kinds::value::Peak;
 use kinds::written::Written;
 use passes::sheet::Sheet;
@@ -10,8 +10,6 @@ use search::weights::read_weights;
 use std::alloc::Global;
 use std::process::Abort;
 use std::test::Fail;
-use table::check::check as check_table;
-use table::table::Table;
 
 // A text, what its reader answers, and the sheet afterwards.
 type Case = (&'static str, &'static str, &'static str);
@@ -92,12 +90,7 @@ fn check_text<K: Written>(
     heap: Global,
     case: &str,
 ) -> Result<(), Fail> {
-    let nodes = plant.nodes.as_slice();
-    let children = plant.children.as_slice();
-    let table = match check_table(nodes, children, &plant.variables) {
-        Ok(sets) => Table::new(nodes, children, plant.variables, sets),
-        Err(_) => return Err(Fail::new(format_args!("refused: {case}"))),
-    };
+    let table = table_of(plant, &case)?;
     let (text, due, sheet) = entry;
     let answer = match read_weights(&table, &mut Sheet { figures }, text.as_bytes()) {
         Ok(_) => String::from_str(heap, "done")?,

@@ -1,38 +1,51 @@
 -- What the sets of the nodes before a node say of it is what the circuit says. Assumes nothing.
-use Rattle.std.proofs.Common.{◌≡◌, ℕ, ◌<◌, ◌≤◌, Bool, true, false, cond, ◌&&◌, ◌||◌, eqb, ltb, ◌⊎◌, List, [], ◌∷◌, map, length, get_or, take, None, Option, sym, refl, ap, ◌∙◌, ap₂, inl, inr, arith}
+use Rattle.std.proofs.Common.{◌≡◌, ℕ, ◌<◌, ◌≤◌, Bool, true, false, cond, ◌&&◌, ◌||◌, eqb, ltb, List, [], ◌∷◌, length, get_or, take, None, Option, sym, refl, ap, ◌∙◌, ap₂, arith}
 use mathlib.Core.Path.{fun_ext}
 use lib.Bits.{bit_and, bit_or}
-use Rattle.std.proofs.lemmas.List.{length-map, length-take-le, get_or-take, get_or-map}
-use Rattle.std.proofs.lemmas.Bool.{and_parts, and_from, ltb-true, leb-true, le-leb, eq-eqb, ne_eqb, cases_eq}
+use Rattle.std.proofs.lemmas.Cmp.{nat_eq_equiv}
+use Rattle.std.proofs.Math.Bool.{and-true, and-false, or-false, or_assoc}
+use Rattle.std.proofs.lemmas.List.{length-map, get_or-take, get_or-map}
+use Rattle.std.proofs.lemmas.Bool.{and_parts, ltb-true, leb-true}
 use Rattle.text.specs.declared.record.Form.{Form}
 use Rattle.text.specs.declared.record.Form.TheVariants.{Literal, And, Fork, True, False}
 use Rattle.text.specs.declared.record.Node.{Node}
 use Rattle.table.specs.declared.fault.Flaw.{Flaw}
 use Rattle.table.specs.declared.fault.Flaw.TheVariants as flaw
-use Rattle.table.specs.Circuit.{Shape, lit, all, fork, top, bottom, Vars, every, some, same, mention, mentions}
-use Rattle.table.specs.Sound.{Roles, known, none, disjoint, apart, chances, up_to, is_leaf, has_leaf, unless, flaw_at}
+use Rattle.table.specs.Circuit.{Shape, lit, all, fork, top, bottom, Vars, every, some, mention, mentions}
+use Rattle.table.specs.Sound.{Roles, known, none, is_leaf, has_leaf, unless, flaw_at}
 use Rattle.table.specs.Nodes.{shape_by, shape, shapes}
 use Rattle.table.specs.Sets.{mask}
-use Rattle.table.specs.Masks.{under, has_bit, chance_mask, apart_masks, or_masks, blank, leaf_mask, leaf_masks, and_flaw, fork_flaw, flaw_by, steady, mask_by, leaves_by}
-use Rattle.table.proofs.Packs.{packed_one, packed_or, mask_none, has_bit_is, getD_mask, apart_is, union_is, or_assoc, or_none}
+use Rattle.table.specs.Masks.{under, nothing, bit, has_bit, chance_mask, apart_masks, blank, literal_sets, with_child, with_children, and_flaw, fork_flaw, flaw_by, sets_by}
+use Rattle.table.specs.declared.known.NodeSets.{NodeSets}
+use Rattle.table.proofs.Packs.{packed_one, packed_or, mask_none, has_bit_is, apart_is}
 use Rattle.table.proofs.Chances.{even_is}
-use Rattle.table.proofs.Upward.{upward_length, upward_here}
 
 -- the variables whose literal that is on (or off) a node has
 abbrev pub leaf_set : Roles → List Shape → Bool → Shape → ℕ
 leaf_set rs ss b s = mask (length rs) (λ v. has_leaf ss v b s)
 
+-- three sets of variables
+abbrev sets : ℕ → Vars → Vars → Vars → NodeSets
+sets n m a b = record { mentions = mask n m; on = mask n a; off = mask n b }
+
+same_sets : (n : ℕ) (m a b m' a' b' : Vars) → ((x : ℕ) → m x ≡ m' x) → ((x : ℕ) → a x ≡ a' x) → ((x : ℕ) → b x ≡ b' x) → sets n m a b ≡ sets n m' a' b'
+same_sets n m a b m' a' b' p q r = λ i. sets n (λ x. p x i) (λ x. q x i) (λ x. r x i)
+
+-- the sets of a node, by what it mentions
+abbrev pub sets_with : Roles → List Shape → Vars → Shape → NodeSets
+sets_with rs ss m s = record { mentions = mask (length rs) m; on = leaf_set rs ss true s; off = leaf_set rs ss false s }
+
+-- the sets of node c
+abbrev pub sets_at : Roles → List Shape → ℕ → NodeSets
+sets_at rs ss c = sets_with rs ss (get_or (mentions ss) c none) (get_or ss c bottom)
+
 -- the sets of the nodes before node i
-pub record Known (rs : Roles) (ss : List Shape) (i : ℕ) (sets on off : List ℕ) : Type 0 where
-  pub sets_are : sets ≡ map (mask (length rs)) (take i (mentions ss))
-  pub on_are : on ≡ map (leaf_set rs ss true) (take i ss)
-  pub off_are : off ≡ map (leaf_set rs ss false) (take i ss)
+pub record Known (rs : Roles) (ss : List Shape) (i : ℕ) (before : List NodeSets) : Type 0 where
+  pub size : length before ≡ i
+  pub are : (c : ℕ) → c < i → get_or before c nothing ≡ sets_at rs ss c
 
 known_bounds : (n v : ℕ) → known n v ≡ true → (0 < v) × (v ≤ n)
 known_bounds n v h = let both = and_parts _ _ h in (ltb-true 0 v both.0, leb-true v n both.1)
-
-known_more : (n m v : ℕ) → n ≤ m → known n v ≡ true → known m v ≡ true
-known_more n m v l h = let both = and_parts _ _ h in and_from _ _ both.0 (let k = leb-true v n both.1 in le-leb v m (omega arith))
 
 unless_same : (ok : Bool) (f : Flaw) (x y : Option Flaw) → (ok ≡ true → x ≡ y) → unless ok f x ≡ unless ok f y
 unless_same true f x y h = h refl
@@ -42,155 +55,129 @@ unless_none : (ok : Bool) (f : Flaw) (x : Option Flaw) → unless ok f x ≡ Non
 unless_none true f x e = refl
 unless_none false f x e = cc
 
--- a node with no flaw
-pub steady_when : (n chances : ℕ) (sets on off : List ℕ) (s : Shape) → n ≤ 64 → flaw_by n chances sets on off s ≡ None → steady 64 (length sets) s ≡ true
-steady_when n chances sets on off (lit v b) l e = known_more n 64 v l (unless_none (known n v) flaw.Variable None e)
-steady_when n chances sets on off (all cs) l e = unless_none (every (under (length sets)) cs) flaw.Order _ e
-steady_when n chances sets on off (fork v a b) l e = unless_none (ltb a (length sets) && ltb b (length sets)) flaw.Order _ e
-steady_when n chances sets on off top l e = refl
-steady_when n chances sets on off bottom l e = refl
-
-known_when : (n chances : ℕ) (sets on off : List ℕ) (v : ℕ) (b : Bool) → flaw_by n chances sets on off (lit v b) ≡ None → known n v ≡ true
-known_when n chances sets on off v b e = unless_none (known n v) flaw.Variable None e
-
-every_same : (i : ℕ) (p q : ℕ → Bool) → ((c : ℕ) → c < i → p c ≡ q c) → (cs : List ℕ) → every (under i) cs ≡ true → every p cs ≡ every q cs
-every_same i p q h [] e = refl
-every_same i p q h (c ∷ cs) e = let parts = and_parts (ltb c i) (every (under i) cs) e in ap₂ ◌&&◌ (h c (ltb-true c i parts.0)) (every_same i p q h cs parts.1)
-
-eqb_swap : (x y : ℕ) → eqb x y ≡ eqb y x
-eqb_swap x y = by (cases_eq x y)
-  where
-    by : (x ≡ y) ⊎ (x ≡ y → ⊥) → eqb x y ≡ eqb y x
-    by (inl e) = eq-eqb x y e ∙ sym (eq-eqb y x (sym e))
-    by (inr n) = ne_eqb x y n ∙ sym (ne_eqb y x (λ e. n (sym e)))
-
-and_true : (b : Bool) → b ≡ (b && true)
-and_true true = refl
-and_true false = refl
-
-and_false : (b : Bool) → false ≡ (b && false)
-and_false true = refl
-and_false false = refl
-
 -- a literal's own set
 literal_set : (n x : ℕ) (t : Bool) → cond t (mask n (λ y. eqb y x)) 0 ≡ mask n (λ v. eqb x v && t)
-literal_set n x true = ap (mask n) (fun_ext (λ y. eqb_swap y x ∙ and_true (eqb x y)))
-literal_set n x false = sym (mask_none n) ∙ ap (mask n) (fun_ext (λ y. and_false (eqb x y)))
+literal_set n x true = ap (mask n) (fun_ext (λ y. nat_eq_equiv.symm y x ∙ sym (and-true (eqb x y))))
+literal_set n x false = sym (mask_none n) ∙ ap (mask n) (fun_ext (λ y. sym (and-false (eqb x y))))
 
-module _ (rs : Roles) (ss : List Shape) (i : ℕ) (sets on off : List ℕ) (short : i ≤ length ss) (are : Known rs ss i sets on off) where
-  many : length (mentions ss) ≡ length ss
-  many = upward_length mention ss
-
-  long : length sets ≡ i
-  long = ap length are.sets_are ∙ length-map (take i (mentions ss)) (mask (length rs)) ∙ length-take-le i (mentions ss) (let m = many in omega arith)
-
-  set_at : (c : ℕ) → c < i → get_or sets c 0 ≡ mask (length rs) (get_or (mentions ss) c none)
-  set_at c l = ap (λ xs. get_or xs c 0) are.sets_are ∙ getD_mask (length rs) (take i (mentions ss)) c ∙ ap (mask (length rs)) (get_or-take i (mentions ss) c none l)
-
-  leaf_at : (b : Bool) (xs : List ℕ) → xs ≡ map (leaf_set rs ss b) (take i ss) → (c : ℕ) → c < i → get_or xs c 0 ≡ leaf_set rs ss b (get_or ss c bottom)
-  leaf_at b xs is c l =
-      ap (λ ys. get_or ys c 0) is ∙ get_or-map (leaf_set rs ss b) (take i ss) c bottom 0 (let e = length-take-le i ss short in omega arith)
-      ∙ ap (leaf_set rs ss b) (get_or-take i ss c bottom l)
-
-  apart_front : (vs cs : List ℕ) → every (under i) cs ≡ true → apart vs (take i (mentions ss)) cs ≡ apart vs (mentions ss) cs
-  apart_front vs [] e = refl
-  apart_front vs (c ∷ cs) e =
-      let ms : List Vars = mentions ss in
-      let parts = and_parts (ltb c i) (every (under i) cs) e in
-      let here : get_or (take i ms) c none ≡ get_or ms c none = get_or-take i ms c none (ltb-true c i parts.0) in
-      ap₂ ◌&&◌
-      (every_same i (λ d. disjoint vs (get_or (take i ms) c none) (get_or (take i ms) d none)) (λ d. disjoint vs (get_or ms c none) (get_or ms d none))
-      (λ d l. ap₂ (disjoint vs) here (get_or-take i ms d none l)) cs parts.1)
-      (apart_front vs cs parts.1)
-
-  and_same : (cs : List ℕ) → and_flaw sets cs ≡ flaw_at rs ss (mentions ss) i (all cs)
+module _ (rs : Roles) (ss : List Shape) (i : ℕ) (before : List NodeSets) (known_is : Known rs ss i before) where
+  and_same : (cs : List ℕ) → and_flaw before cs ≡ flaw_at rs ss (mentions ss) i (all cs)
   and_same cs =
-      ap (λ k. unless (every (under k) cs) flaw.Order (unless (apart_masks 0 sets cs) flaw.Shared None)) long
+      ap (λ k. unless (every (under k) cs) flaw.Order (unless (apart_masks 0 before cs) flaw.Shared None)) known_is.size
       ∙ unless_same (every (under i) cs) flaw.Order _ _ (λ t.
-      ap (λ b. unless b flaw.Shared None)
-      (ap (λ m. apart_masks 0 m cs) are.sets_are ∙ apart_is (length rs) (take i (mentions ss)) cs ∙ apart_front (up_to 1 (length rs)) cs t))
+      ap (λ b. unless b flaw.Shared None) (apart_is (length rs) i (mentions ss) before (λ c l. ap (λ s. s.mentions) (known_is.are c l)) cs t))
 
-  fork_same : (v a b : ℕ) → fork_flaw (length rs) (chance_mask rs) sets on off v a b ≡ flaw_at rs ss (mentions ss) i (fork v a b)
+  fork_same : (v a b : ℕ) → fork_flaw (length rs) (chance_mask rs) before v a b ≡ flaw_at rs ss (mentions ss) i (fork v a b)
   fork_same v a b =
       let n : ℕ = length rs in
       let ms : List Vars = mentions ss in
+      let sa : NodeSets = get_or before a nothing in
+      let sb : NodeSets = get_or before b nothing in
       ap (λ k. unless (ltb a k && ltb b k) flaw.Order
       (unless (known n v) flaw.Variable
-      (unless (has_bit v (get_or on a 0) && has_bit v (get_or off b 0)) flaw.Branch
-      (unless (eqb (bit_and (get_or sets a 0) (chance_mask rs)) (bit_and (get_or sets b 0) (chance_mask rs))) flaw.Uneven None)))) long
+      (unless (has_bit v sa.on && has_bit v sb.off) flaw.Branch
+      (unless (eqb (bit_and sa.mentions (chance_mask rs)) (bit_and sb.mentions (chance_mask rs))) flaw.Uneven None)))) known_is.size
       ∙ unless_same (ltb a i && ltb b i) flaw.Order _ _ (λ t. unless_same (known n v) flaw.Variable _ _ (λ k.
       let below = and_parts (ltb a i) (ltb b i) t in
-      let la = ltb-true a i below.0 in
-      let lb = ltb-true b i below.1 in
+      let ea = known_is.are a (ltb-true a i below.0) in
+      let eb = known_is.are b (ltb-true b i below.1) in
       let bounds = known_bounds n v k in
       ap₂ (λ x y. unless x flaw.Branch (unless y flaw.Uneven None))
       (ap₂ ◌&&◌
-      (ap (has_bit v) (leaf_at true on are.on_are a la) ∙ has_bit_is n v (λ x. has_leaf ss x true (get_or ss a bottom)) bounds.0 bounds.1)
-      (ap (has_bit v) (leaf_at false off are.off_are b lb) ∙ has_bit_is n v (λ x. has_leaf ss x false (get_or ss b bottom)) bounds.0 bounds.1))
-      (ap₂ (λ x y. eqb (bit_and x (chance_mask rs)) (bit_and y (chance_mask rs))) (set_at a la) (set_at b lb)
+      (ap (λ s. has_bit v s.on) ea ∙ has_bit_is n v (λ x. has_leaf ss x true (get_or ss a bottom)) bounds.0 bounds.1)
+      (ap (λ s. has_bit v s.off) eb ∙ has_bit_is n v (λ x. has_leaf ss x false (get_or ss b bottom)) bounds.0 bounds.1))
+      (ap₂ (λ x y. eqb (bit_and x.mentions (chance_mask rs)) (bit_and y.mentions (chance_mask rs))) ea eb
       ∙ even_is 1 rs (get_or ms a none) (get_or ms b none))))
 
-  pub flaw_same : (s : Shape) → flaw_by (length rs) (chance_mask rs) sets on off s ≡ flaw_at rs ss (mentions ss) i s
+  pub flaw_same : (s : Shape) → flaw_by (length rs) (chance_mask rs) before s ≡ flaw_at rs ss (mentions ss) i s
   flaw_same (lit v b) = refl
   flaw_same (all cs) = and_same cs
   flaw_same (fork v a b) = fork_same v a b
   flaw_same top = refl
   flaw_same bottom = refl
 
-  pub mask_same : (s : Shape) → flaw_by (length rs) (chance_mask rs) sets on off s ≡ None → mask_by sets s ≡ mask (length rs) (mention (take i (mentions ss)) s)
-  mask_same (lit v b) e =
-      let k = known_bounds (length rs) v (known_when (length rs) (chance_mask rs) sets on off v b e) in
-      sym (packed_one 1 (length rs) v k.0 (omega arith))
-  mask_same (all cs) e = ap (λ m. or_masks 0 m cs) are.sets_are ∙ union_is (length rs) (take i (mentions ss)) cs
-  mask_same (fork v a b) e =
-      let ms : List Vars = take i (mentions ss) in
-      ap (λ m. bit_or (get_or m a 0) (get_or m b 0)) are.sets_are ∙ ap₂ bit_or (getD_mask (length rs) ms a) (getD_mask (length rs) ms b)
-      ∙ packed_or 1 (length rs) (get_or ms a none) (get_or ms b none)
-  mask_same top e = sym (mask_none (length rs))
-  mask_same bottom e = sym (mask_none (length rs))
+module _ (n : ℕ) where
+  nothing_is : nothing ≡ sets n none none none
+  nothing_is = λ j. record { mentions = sym (mask_none n) j; on = sym (mask_none n) j; off = sym (mask_none n) j }
 
--- literals among the children
-leaf_form : (n : ℕ) (b : Bool) (store : List ℕ) (first count : ℕ) (done : List Vars) (f : Form)
-    → leaf_mask b (mask n (mention done (shape_by store first count f))) f ≡ mask n (λ v. is_leaf v b (shape_by store first count f))
-leaf_form n b store first count done (Literal v on) = literal_set n v (same on b)
-leaf_form n b store first count done And = sym (mask_none n)
-leaf_form n b store first count done (Fork v) = sym (mask_none n)
-leaf_form n b store first count done True = sym (mask_none n)
-leaf_form n b store first count done False = sym (mask_none n)
+  literal_is : (v : ℕ) (on : Bool) → (0 < v) × (v ≤ n) → literal_sets v on ≡ sets n (λ x. eqb x v) (λ x. is_leaf x true (lit v on)) (λ x. is_leaf x false (lit v on))
+  literal_is v true bounds = λ j. record { mentions = one j; on = (one ∙ literal_set n v true) j; off = literal_set n v false j }
+    where
+      one : bit v ≡ mask n (λ x. eqb x v)
+      one = sym (packed_one 1 n v bounds.0 (omega arith))
+  literal_is v false bounds = λ j. record { mentions = one j; on = literal_set n v false j; off = (one ∙ literal_set n v true) j }
+    where
+      one : bit v ≡ mask n (λ x. eqb x v)
+      one = sym (packed_one 1 n v bounds.0 (omega arith))
 
-module _ (rs : Roles) (store : List ℕ) (ns : List Node) (i : ℕ) (sets on off : List ℕ) (short : i ≤ length (shapes store ns)) (are : Known rs (shapes store ns) i sets on off) where
+  -- a child that is no literal
+  mentions_more : (m a b d : Vars)
+      → ◌≡◌ {A = NodeSets} (record { mentions = bit_or (mask n m) (mask n d); on = mask n a; off = mask n b }) (sets n (λ x. m x || d x) (λ x. a x || false) (λ x. b x || false))
+  mentions_more m a b d = λ j. record { mentions = packed_or 1 n m d j; on = mask n (λ x. sym (or-false (a x)) j); off = mask n (λ x. sym (or-false (b x)) j) }
+
+module _ (rs : Roles) (store : List ℕ) (ns : List Node) where
   abbrev ss : List Shape
   ss = shapes store ns
 
-  child_leaf : (b : Bool) (c : ℕ) → c < i → leaf_mask b (get_or sets c 0) (get_or ns c blank).form ≡ mask (length rs) (λ v. is_leaf v b (get_or ss c bottom))
-  child_leaf b c l =
-      let ms : List Vars = mentions ss in
-      let node : Node = get_or ns c blank in
-      let size : length ss ≡ length ns = length-map ns (shape store) in
-      let here : get_or ss c bottom ≡ shape store node = get_or-map (shape store) ns c blank bottom (omega arith) in
-      let set_is : get_or sets c 0 ≡ mask (length rs) (mention (take c ms) (shape store node)) =
-      set_at rs ss i sets on off short are c l
-      ∙ ap (mask (length rs)) (upward_here mention ss c none (omega arith) ∙ ap (mention (take c ms)) here) in
-      ap (λ m. leaf_mask b m node.form) set_is
-      ∙ leaf_form (length rs) b store node.first node.count (take c ms) node.form
-      ∙ ap (λ s. mask (length rs) (λ v. is_leaf v b s)) (sym here)
+  abbrev n : ℕ
+  n = length rs
 
-  leaves_seen : (b : Bool) (seen : Vars) (cs : List ℕ) → every (under i) cs ≡ true
-      → leaf_masks b (mask (length rs) seen) ns sets cs ≡ mask (length rs) (λ x. seen x || some (λ c. is_leaf x b (get_or ss c bottom)) cs)
-  leaves_seen b seen [] e = ap (mask (length rs)) (fun_ext (λ x. sym (or_none (seen x))))
-  leaves_seen b seen (c ∷ cs) e =
-      let parts = and_parts (ltb c i) (every (under i) cs) e in
-      let leaf : Vars = λ x. is_leaf x b (get_or ss c bottom) in
-      ap (λ m. leaf_masks b (bit_or (mask (length rs) seen) m) ns sets cs) (child_leaf b c (ltb-true c i parts.0))
-      ∙ ap (λ m. leaf_masks b m ns sets cs) (packed_or 1 (length rs) seen leaf)
-      ∙ leaves_seen b (λ x. seen x || leaf x) cs parts.1
-      ∙ ap (mask (length rs)) (fun_ext (λ x. or_assoc (seen x) (leaf x) (some (λ d. is_leaf x b (get_or ss d bottom)) cs)))
+  -- one child more
+  with_one : (m a b d : Vars) (first count : ℕ) (f : Form)
+      → with_child (sets n m a b) f (sets_with rs ss d (shape_by store first count f))
+      ≡ sets n (λ x. m x || d x) (λ x. a x || is_leaf x true (shape_by store first count f)) (λ x. b x || is_leaf x false (shape_by store first count f))
+  with_one m a b d first count (Literal v on) = λ j. record {
+    mentions = packed_or 1 n m d j;
+    on = packed_or 1 n a (λ x. is_leaf x true (lit v on)) j;
+    off = packed_or 1 n b (λ x. is_leaf x false (lit v on)) j;
+  }
+  with_one m a b d first count And = mentions_more n m a b d
+  with_one m a b d first count (Fork v) = mentions_more n m a b d
+  with_one m a b d first count True = mentions_more n m a b d
+  with_one m a b d first count False = mentions_more n m a b d
 
-  pub leaves_same : (b : Bool) (set : ℕ) (s : Shape) → steady 64 (length sets) s ≡ true → set ≡ mask (length rs) (mention (take i (mentions ss)) s) → leaves_by b set ns sets s ≡ leaf_set rs ss b s
-  leaves_same b set (lit x side) e is = ap (λ m. cond (same side b) m 0) is ∙ literal_set (length rs) x (same side b)
-  leaves_same b set (all cs) e is =
-      ap (λ m. leaf_masks b m ns sets cs) (sym (mask_none (length rs)))
-      ∙ leaves_seen b none cs (sym (ap (λ k. every (under k) cs) (long rs ss i sets on off short are)) ∙ e)
-  leaves_same b set (fork v p q) e is = sym (mask_none (length rs))
-  leaves_same b set top e is = sym (mask_none (length rs))
-  leaves_same b set bottom e is = sym (mask_none (length rs))
+  module _ (i : ℕ) (before : List NodeSets) (short : i ≤ length ss) (known_is : Known rs ss i before) where
+    abbrev done : List Vars
+    done = take i (mentions ss)
+
+    read : (c : ℕ) → c < i → get_or before c nothing ≡ sets_with rs ss (get_or done c none) (shape store (get_or ns c blank))
+    read c l =
+        let size : length ss ≡ length ns = length-map ns (shape store) in
+        known_is.are c l
+        ∙ ap₂ (sets_with rs ss) (sym (get_or-take i (mentions ss) c none l)) (get_or-map (shape store) ns c blank bottom (omega arith))
+
+    children_seen : (m a b : Vars) (cs : List ℕ) → every (under i) cs ≡ true
+        → with_children (sets n m a b) ns before cs
+        ≡ sets n (λ x. m x || some (λ c. get_or done c none x) cs) (λ x. a x || some (λ c. is_leaf x true (get_or ss c bottom)) cs) (λ x. b x || some (λ c. is_leaf x false (get_or ss c bottom)) cs)
+    children_seen m a b [] e = same_sets n m a b _ _ _ (λ x. sym (or-false (m x))) (λ x. sym (or-false (a x))) (λ x. sym (or-false (b x)))
+    children_seen m a b (c ∷ cs) e =
+        let parts = and_parts (ltb c i) (every (under i) cs) e in
+        let l = ltb-true c i parts.0 in
+        let node : Node = get_or ns c blank in
+        let d : Vars = get_or done c none in
+        let size : length ss ≡ length ns = length-map ns (shape store) in
+        let here : shape store node ≡ get_or ss c bottom = sym (get_or-map (shape store) ns c blank bottom (omega arith)) in
+        ap (λ s. with_children (with_child (sets n m a b) node.form s) ns before cs) (read c l)
+        ∙ ap (λ s. with_children s ns before cs)
+        (with_one m a b d node.first node.count node.form
+        ∙ ap (λ s. sets n (λ x. m x || d x) (λ x. a x || is_leaf x true s) (λ x. b x || is_leaf x false s)) here)
+        ∙ children_seen (λ x. m x || d x) (λ x. a x || is_leaf x true (get_or ss c bottom)) (λ x. b x || is_leaf x false (get_or ss c bottom)) cs parts.1
+        ∙ same_sets n _ _ _ _ _ _ (λ x. or_assoc (m x) (d x) _) (λ x. or_assoc (a x) (is_leaf x true (get_or ss c bottom)) _) (λ x. or_assoc (b x) (is_leaf x false (get_or ss c bottom)) _)
+
+    -- the sets of a node with no flaw
+    pub sets_same : (s : Shape) → flaw_by (length rs) (chance_mask rs) before s ≡ None → sets_by ns before s ≡ sets_with rs ss (mention (take i (mentions ss)) s) s
+    sets_same (lit v on) e = literal_is n v on (known_bounds n v (unless_none (known n v) flaw.Variable None e))
+    sets_same (all cs) e =
+        ap (λ s. with_children s ns before cs) (nothing_is n)
+        ∙ children_seen none none none cs (ap (λ k. every (under k) cs) (sym known_is.size) ∙ unless_none (every (under (length before)) cs) flaw.Order _ e)
+    sets_same (fork v a b) e =
+        let both = and_parts _ _ (ap (λ k. ltb a k && ltb b k) (sym known_is.size) ∙ unless_none (ltb a (length before) && ltb b (length before)) flaw.Order _ e) in
+        λ j. record {
+          mentions =
+              (ap₂ (λ x y. bit_or x.mentions y.mentions) (read a (ltb-true a i both.0)) (read b (ltb-true b i both.1))
+              ∙ packed_or 1 n (get_or done a none) (get_or done b none)) j;
+          on = sym (mask_none n) j;
+          off = sym (mask_none n) j;
+        }
+    sets_same top e = nothing_is n
+    sets_same bottom e = nothing_is n

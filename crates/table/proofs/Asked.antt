@@ -1,5 +1,5 @@
 -- What a checked table says of its nodes and variables. Assumes nothing.
-use Rattle.std.proofs.Common.{◌≡◌, ℕ, suc, ◌-◌, ◌<◌, ◌≤◌, true, false, length, get_or, replicate, sym, ap, ◌∙◌, inl, inr, arith}
+use Rattle.std.proofs.Common.{◌≡◌, ℕ, suc, ◌-◌, ◌<◌, ◌≤◌, true, false, List, length, get_or, replicate, sym, ap, ◌∙◌, inl, inr, arith}
 use Rattle.std.proofs.lemmas.List.{get_or_past, get_or_append_left, get_or-map, length-map, length-take}
 use Rattle.std.proofs.lemmas.Bool.{cases_Bool, both_ways}
 use Rattle.text.specs.Format.{listed}
@@ -61,10 +61,11 @@ module _ (t : Table) where
   pub variables_few : length (roles t) ≤ 64
   variables_few = omega (arith, variables_long, length-take t.variables.count t.variables.all, t.variables.fits)
 
-  pub option_says : (v : ℕ) (x : Variable) → known (length (roles t)) v ≡ true → x ≡ get_or (listed t.variables) (v - 1) x → is_option (roles t) v ≡ is_option_role x.role
-  option_says v x k e =
+  pub option_says : (v : ℕ) (x : Variable) (vs : List Variable) → known (length (roles t)) v ≡ true → vs ≡ listed t.variables
+      → is_option (roles t) v ≡ is_option_role (get_or vs (v - 1) x).role
+  option_says v x vs k e =
       let inside = (decides_known (roles t) v).0 k in
       let back : suc (v - 1) ≡ v = omega arith in
       let short : v - 1 < length (listed t.variables) = omega (arith, variables_long) in
       ap (is_option (roles t)) (sym back) ∙ role_at (roles t) (v - 1)
-      ∙ get_or-map (λ y. is_option_role y.role) (listed t.variables) (v - 1) x false short ∙ ap (λ y. is_option_role y.role) (sym e)
+      ∙ get_or-map (λ y. is_option_role y.role) (listed t.variables) (v - 1) x false short ∙ ap (λ l. is_option_role (get_or l (v - 1) x).role) (sym e)

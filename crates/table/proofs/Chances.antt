@@ -1,7 +1,11 @@
 -- The set of the chances. Assumes nothing.
-use Rattle.std.proofs.Common.{◌≡◌, ℕ, ◌+◌, ◌*◌, ◌^◌, ◌<◌, ◌≤◌, Bool, true, false, cond, ◌&&◌, eqb, [], ◌∷◌, length, get_or, drop, sym, refl, ap, ◌∙◌, ap₂, pow-suc, arith, pow_mono}
-use lib.Bits.{bit_and}
-use Rattle.std.proofs.lemmas.List.{length-map, length-drop, length-take, at_drop_more, get_or-map}
+use Rattle.std.proofs.Common.{◌≡◌, ℕ, ◌+◌, ◌*◌, ◌/◌, ◌%◌, ◌^◌, max, List, map, reverse, ◌<◌, ◌≤◌, Bool, true, false, cond, ◌&&◌, eqb, [], ◌∷◌, length, sym, refl, ap, ◌∙◌, ap₂, add-zero, pow-suc, arith, pow_mono}
+use lib.Bits.{bit_and, bit_or, or_step}
+use Rattle.std.proofs.Math.Bool.{and-true}
+use Rattle.std.specs.Int.Bits.{or_zero_r}
+use Rattle.std.specs.List.{fold}
+use Rattle.std.proofs.lemmas.List.Sums.{fold-append}
+use Rattle.std.proofs.lemmas.List.{reverse-append, length-map, length-take}
 use Rattle.text.specs.declared.record.Role.{Role}
 use Rattle.text.specs.declared.record.Role.TheVariants as role
 use Rattle.text.specs.declared.record.Variable.{Variable}
@@ -18,10 +22,6 @@ chance_role : (r : Role) → cond (is_option_role r) 0 1 ≡ chance_bit r
 chance_role role.Option = refl
 chance_role role.Chance = refl
 
-pub chance_bit_small : (r : Role) → chance_bit r ≤ 1
-chance_bit_small role.Option = omega arith
-chance_bit_small role.Chance = omega arith
-
 chance_below : (rs : Roles) → chance_mask rs < 2 ^ length rs
 unfolding chance_mask
 chance_below [] = omega arith
@@ -34,33 +34,34 @@ roles_length vs = length-map (listed vs) (λ v. is_option_role v.role)
 pub roles_few : (vs : Variables) → length (roles_of vs) ≤ 64
 roles_few vs = let e = roles_length vs in let f = vs.fits in let t : length (listed vs) ≤ vs.count = simp length-take (omega arith) in omega arith
 
--- there is room for one bit more
-pub chance_room : (vs : Variables) (i : ℕ) → 0 < i → i ≤ length (listed vs) → chance_mask (drop i (roles_of vs)) * 2 + 1 < 2 ^ 64
-chance_room vs i l h =
-    let e = roles_length vs in
-    let few = roles_few vs in
-    let short : length (drop i (roles_of vs)) ≤ 63 = simp length-drop (omega arith) in
-    let room : 2 ^ length (drop i (roles_of vs)) ≤ 2 ^ 63 = pow_mono short in
-    omega (arith, chance_below (drop i (roles_of vs)))
+-- the set with one variable more in front
+abbrev pub chance_step : ℕ → Variable → ℕ
+chance_step set v = bit_or ((set * 2 ^ 1) % 2 ^ 64) (chance_bit v.role)
 
--- the variables from place i on
-pub chance_step : (vs : Variables) (i : ℕ) (d : Variable) → i < length (listed vs) → chance_mask (drop (i + 1) (roles_of vs)) * 2 + chance_bit (get_or (listed vs) i d).role ≡ chance_mask (drop i (roles_of vs))
+low_bit : (n : ℕ) (b : Bool) → bit_or (n * 2) (cond b 0 1) ≡ n * 2 + cond b 0 1
+low_bit n true = or_zero_r (n * 2) ∙ sym (add-zero (n * 2))
+low_bit n false =
+    let half : n * 2 / 2 ≡ n = omega arith in
+    let even : n * 2 % 2 ≡ 0 = omega arith in
+    or_step (n * 2) 1 ∙ ap₂ (λ x y. x * 2 + y) (ap (λ x. bit_or x 0) half ∙ or_zero_r n) (ap (λ x. max x 1) even)
+
+-- the variables of a list, the last one first
+pub fold_chances : (vs : List Variable) → length vs ≤ 64 → fold chance_step 0 (reverse vs) ≡ chance_mask (map (λ v. is_option_role v.role) vs)
 unfolding chance_mask
-chance_step vs i d l =
-    let e = roles_length vs in
-    sym (at_drop_more chance_mask (roles_of vs) i true (omega arith)
-    ∙ ap (λ b. chance_mask (drop (i + 1) (roles_of vs)) * 2 + cond b 0 1) (get_or-map (λ v. is_option_role v.role) (listed vs) i d true l)
-    ∙ ap (λ n. chance_mask (drop (i + 1) (roles_of vs)) * 2 + n) (chance_role (get_or (listed vs) i d).role))
+fold_chances [] h = refl
+fold_chances (v ∷ vs) h =
+    let rs : Roles = map (λ (u : Variable). is_option_role u.role) vs in
+    let room : 2 ^ length rs ≤ 2 ^ 63 = pow_mono {i = length rs} {j = 63} (let e = length-map vs (λ (u : Variable). is_option_role u.role) in omega arith) in
+    let fits : chance_mask rs * 2 ^ 1 % 2 ^ 64 ≡ chance_mask rs * 2 = let b = chance_below rs in omega arith in
+    ap (fold chance_step 0) (reverse-append (v ∷ []) vs) ∙ fold-append chance_step 0 (reverse vs) (v ∷ [])
+    ∙ ap (λ n. chance_step n v) (fold_chances vs (omega arith))
+    ∙ ap₂ bit_or fits (sym (chance_role v.role)) ∙ low_bit (chance_mask rs) (is_option_role v.role)
 
 same_off : (a b : Bool) → same (a && false) (b && false) ≡ true
 same_off true true = refl
 same_off true false = refl
 same_off false true = refl
 same_off false false = refl
-
-and_on : (a : Bool) → (a && true) ≡ a
-and_on true = refl
-and_on false = refl
 
 -- the branches of a fork mention the same chances
 pub even_is : (i : ℕ) (rs : Roles) (a b : Vars)
@@ -78,7 +79,7 @@ even_is i (false ∷ rs) a b =
     let q = packed (i + 1) b (length rs) in
     let k = chance_mask rs in
     ap₂ eqb (and_bit p k (a i) true) (and_bit q k (b i) true) ∙ same_bit (bit_and p k) (bit_and q k) (a i && true) (b i && true)
-    ∙ ap₂ ◌&&◌ (ap₂ same (and_on (a i)) (and_on (b i))) (even_is (i + 1) rs a b)
+    ∙ ap₂ ◌&&◌ (ap₂ same (and-true (a i)) (and-true (b i))) (even_is (i + 1) rs a b)
 
 all_off : (a : Bool) → same (a && false) false ≡ true
 all_off true = refl

@@ -1,33 +1,12 @@
--- `every` and `apart_masks` along a slice. Assumes nothing.
-use Rattle.std.proofs.Common.{◌≡◌, ℕ, ◌+◌, ◌<◌, Bool, true, false, ◌&&◌, eqb, List, length, get_or, drop, sym, ap, ◌∙◌}
-use lib.Bits.{bit_and, bit_or}
+-- `every` along a slice. Assumes nothing.
+use Rattle.std.proofs.Common.{◌≡◌, ℕ, ◌+◌, ◌<◌, Bool, true, ◌&&◌, List, length, get_or, drop, sym, ◌∙◌}
 use Rattle.std.proofs.lemmas.List.{at_drop_more}
 use Rattle.std.proofs.lemmas.Bool.{and_parts}
 use Rattle.table.specs.Circuit.{every}
-use Rattle.table.specs.Masks.{apart_masks}
 
 module _ {A : Type 0} (p : A → Bool) (xs : List A) (i : ℕ) (d : A) (in-range : i < length xs) where
   every_step : every p (drop i xs) ≡ (p (get_or xs i d) && every p (drop (i + 1) xs))
   every_step = at_drop_more (every p) xs i d in-range
 
-  pub every_more : p (get_or xs i d) ≡ true → every p (drop (i + 1) xs) ≡ every p (drop i xs)
-  every_more h = sym (every_step ∙ ap (λ b. b && every p (drop (i + 1) xs)) h)
-
-  pub every_stop : p (get_or xs i d) ≡ false → every p (drop i xs) ≡ false
-  every_stop h = every_step ∙ ap (λ b. b && every p (drop (i + 1) xs)) h
-
   pub every_here : every p (drop i xs) ≡ true → (p (get_or xs i d) ≡ true) × (every p (drop (i + 1) xs) ≡ true)
   every_here h = and_parts _ _ (sym every_step ∙ h)
-
-module _ (seen : ℕ) (sets xs : List ℕ) (i : ℕ) (in-range : i < length xs) where
-  abbrev here : ℕ
-  here = get_or sets (get_or xs i 0) 0
-
-  apart_step : apart_masks seen sets (drop i xs) ≡ (eqb (bit_and seen here) 0 && apart_masks (bit_or seen here) sets (drop (i + 1) xs))
-  apart_step = at_drop_more (apart_masks seen sets) xs i 0 in-range
-
-  pub apart_more : eqb (bit_and seen (get_or sets (get_or xs i 0) 0)) 0 ≡ true → apart_masks (bit_or seen (get_or sets (get_or xs i 0) 0)) sets (drop (i + 1) xs) ≡ apart_masks seen sets (drop i xs)
-  apart_more h = sym (apart_step ∙ ap (λ b. b && apart_masks (bit_or seen here) sets (drop (i + 1) xs)) h)
-
-  pub apart_stop : eqb (bit_and seen (get_or sets (get_or xs i 0) 0)) 0 ≡ false → apart_masks seen sets (drop i xs) ≡ false
-  apart_stop h = apart_step ∙ ap (λ b. b && apart_masks (bit_or seen here) sets (drop (i + 1) xs)) h

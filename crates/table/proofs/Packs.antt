@@ -1,12 +1,15 @@
 -- Sets of variables as bits of a number. Assumes nothing.
-use Rattle.std.proofs.Common.{◌≡◌, ℕ, zero, suc, ◌+◌, ◌-◌, ◌*◌, ◌/◌, ◌%◌, ◌^◌, ◌<◌, ◌≤◌, min, max, Bool, true, false, cond, not, ◌&&◌, ◌||◌, eqb, ◌⊎◌, List, [], ◌∷◌, map, get_or, sym, refl, ap, ◌∙◌, ap₂, inl, inr, pow-suc, arith}
+use Rattle.std.proofs.Common.{◌≡◌, ℕ, zero, suc, ◌+◌, ◌-◌, ◌*◌, ◌/◌, ◌%◌, ◌^◌, ◌<◌, ◌≤◌, min, max, Bool, true, false, cond, not, ◌&&◌, ◌||◌, eqb, ltb, ◌⊎◌, List, [], ◌∷◌, map, get_or, sym, refl, ap, ◌∙◌, ap₂, inl, inr, pow-suc, arith}
 use mathlib.Core.Path.{fun_ext}
+use Rattle.std.proofs.Math.Bool.{and-true, and-false, not-not}
+use Rattle.std.proofs.Math.ListN.{get_or-map as get_or-mapped}
 use lib.Bits.{bit_and, bit_or, and_step, or_step}
-use Rattle.std.proofs.lemmas.Bool.{eq-eqb, ne_eqb, cases_order, cases_eq}
-use Rattle.table.specs.Circuit.{Vars, every, some, same}
+use Rattle.std.proofs.lemmas.Bool.{and_parts, ltb-true, eq-eqb, ne_eqb, cases_order, cases_eq}
+use Rattle.table.specs.Circuit.{Vars, every, same}
 use Rattle.table.specs.Sound.{none, disjoint, apart, up_to}
 use Rattle.table.specs.Sets.{packed, mask}
-use Rattle.table.specs.Masks.{has_bit, apart_masks, or_masks}
+use Rattle.table.specs.Masks.{under, nothing, has_bit, apart_masks}
+use Rattle.table.specs.declared.known.NodeSets.{NodeSets}
 
 half : (p : ℕ) (b : Bool) → (p * 2 + cond b 1 0) / 2 ≡ p
 half p true = omega arith
@@ -117,21 +120,9 @@ packed_one i (suc k) v l m = by (cases_order i v) (λ g. packed_one (i + 1) k v 
     by (inr (inr g)) more = absurd (far g l)
 
 -- whether a variable is in a set
-and_false : (b : Bool) → (b && false) ≡ false
-and_false true = refl
-and_false false = refl
-
-and_true : (b : Bool) → (b && true) ≡ b
-and_true true = refl
-and_true false = refl
-
-not_not : (b : Bool) → not (not b) ≡ b
-not_not true = refl
-not_not false = refl
-
 past_only : (i k v : ℕ) (m : Vars) → v < i → every (λ x. not (m x && eqb x v)) (up_to i k) ≡ true
 past_only i zero v m l = refl
-past_only i (suc k) v m l = ap₂ ◌&&◌ (ap (λ b. not (m i && b)) (ne_eqb i v (omega arith)) ∙ ap not (and_false (m i))) (past_only (i + 1) k v m (omega arith))
+past_only i (suc k) v m l = ap₂ ◌&&◌ (ap (λ b. not (m i && b)) (ne_eqb i v (omega arith)) ∙ ap not (and-false (m i))) (past_only (i + 1) k v m (omega arith))
 
 only : (i k v : ℕ) (m : Vars) → i ≤ v → v < i + k → every (λ x. not (m x && eqb x v)) (up_to i k) ≡ not (m v)
 only i zero v m l h = absurd (far l h)
@@ -145,10 +136,10 @@ only i (suc k) v m l h = by (cases_order i v) (λ g. only (i + 1) k v m (let q :
 
     by : (i ≡ v) ⊎ ((i < v) ⊎ (v < i)) → (i < v → every (λ x. not (m x && eqb x v)) (up_to (i + 1) k) ≡ not (m v)) → (not (m i && eqb i v) && every (λ x. not (m x && eqb x v)) (up_to (i + 1) k)) ≡ not (m v)
     by (inl e) more =
-        ap₂ ◌&&◌ (ap (λ b. not (m i && b)) (eq-eqb i v e) ∙ ap not (and_true (m i)) ∙ ap (λ x. not (m x)) e) (past_only (i + 1) k v m (omega arith))
-        ∙ and_true (not (m v))
+        ap₂ ◌&&◌ (ap (λ b. not (m i && b)) (eq-eqb i v e) ∙ ap not (and-true (m i)) ∙ ap (λ x. not (m x)) e) (past_only (i + 1) k v m (omega arith))
+        ∙ and-true (not (m v))
     by (inr (inl g)) more =
-        ap₂ ◌&&◌ (ap (λ b. not (m i && b)) (ne_eqb i v (omega arith)) ∙ ap not (and_false (m i))) (more g)
+        ap₂ ◌&&◌ (ap (λ b. not (m i && b)) (ne_eqb i v (omega arith)) ∙ ap not (and-false (m i))) (more g)
     by (inr (inr g)) more = absurd (far g l)
 
 pub has_bit_is : (n v : ℕ) (m : Vars) → 1 ≤ v → v ≤ n → has_bit v (mask n m) ≡ m v
@@ -156,7 +147,7 @@ has_bit_is n v m l h =
     ap (λ x. not (eqb (bit_and (mask n m) x) 0)) (sym (packed_one 1 n v l (omega arith)))
     ∙ ap (λ x. not (eqb x 0)) (packed_and 1 n m (λ x. eqb x v))
     ∙ ap not (packed_none 1 n (λ x. m x && eqb x v) ∙ only 1 n v m l (omega arith))
-    ∙ not_not (m v)
+    ∙ not-not (m v)
 
 -- no two of several sets meet
 and_swap : (a b c d : Bool) → (a && ((b && c) && d)) ≡ ((a && b) && (c && d))
@@ -190,47 +181,28 @@ disjoint_or vs a b c =
     ap (λ f. every f vs) (fun_ext (λ v. not_or (a v) (b v) (c v))) ∙ every_and (λ v. not (a v && c v)) (λ v. not (b v && c v)) vs
 
 pub getD_mask : (n : ℕ) (ms : List Vars) (c : ℕ) → get_or (map (mask n) ms) c 0 ≡ mask n (get_or ms c none)
-getD_mask n [] c = sym (mask_none n)
-getD_mask n (m ∷ ms) zero = refl
-getD_mask n (m ∷ ms) (suc c) = getD_mask n ms c
-
-pub or_assoc : (a b c : Bool) → ((a || b) || c) ≡ (a || (b || c))
-or_assoc true b c = refl
-or_assoc false b c = refl
-
-pub or_none : (a : Bool) → (a || false) ≡ a
-or_none true = refl
-or_none false = refl
+getD_mask n ms c = ap (get_or (map (mask n) ms) c) (sym (mask_none n)) ∙ get_or-mapped (mask n) ms c none
 
 every_true : {A : Type 0} (p : A → Bool) (xs : List A) → ((x : A) → p x ≡ true) → every p xs ≡ true
 every_true p [] h = refl
 every_true p (x ∷ xs) h = ap₂ ◌&&◌ (h x) (every_true p xs h)
 
-module _ (n : ℕ) (ms : List Vars) where
-  apart_seen : (seen : Vars) (cs : List ℕ) → apart_masks (mask n seen) (map (mask n) ms) cs ≡ (every (λ d. disjoint (up_to 1 n) seen (get_or ms d none)) cs && apart (up_to 1 n) ms cs)
-  apart_seen seen [] = refl
-  apart_seen seen (c ∷ cs) =
+-- several nodes, of which the sets `before` are known
+module _ (n i : ℕ) (ms : List Vars) (before : List NodeSets) (read : (c : ℕ) → c < i → (get_or before c nothing).mentions ≡ mask n (get_or ms c none)) where
+  apart_seen : (seen : Vars) (cs : List ℕ) → every (under i) cs ≡ true
+      → apart_masks (mask n seen) before cs ≡ (every (λ d. disjoint (up_to 1 n) seen (get_or ms d none)) cs && apart (up_to 1 n) ms cs)
+  apart_seen seen [] e = refl
+  apart_seen seen (c ∷ cs) e =
       let vs : List ℕ = up_to 1 n in
       let mc : Vars = get_or ms c none in
-      ap₂ (λ x y. eqb (bit_and (mask n seen) x) 0 && apart_masks (bit_or (mask n seen) y) (map (mask n) ms) cs) (getD_mask n ms c) (getD_mask n ms c)
-      ∙ ap₂ ◌&&◌ (mask_apart n seen mc) (ap (λ y. apart_masks y (map (mask n) ms) cs) (packed_or 1 n seen mc) ∙ apart_seen (λ v. seen v || mc v) cs)
+      let parts = and_parts (ltb c i) (every (under i) cs) e in
+      ap (λ x. eqb (bit_and (mask n seen) x) 0 && apart_masks (bit_or (mask n seen) x) before cs) (read c (ltb-true c i parts.0))
+      ∙ ap₂ ◌&&◌ (mask_apart n seen mc) (ap (λ y. apart_masks y before cs) (packed_or 1 n seen mc) ∙ apart_seen (λ v. seen v || mc v) cs parts.1)
       ∙ ap (λ f. disjoint vs seen mc && (every f cs && apart vs ms cs)) (fun_ext (λ d. disjoint_or vs seen mc (get_or ms d none)))
       ∙ ap (λ b. disjoint vs seen mc && (b && apart vs ms cs)) (every_and (λ d. disjoint vs seen (get_or ms d none)) (λ d. disjoint vs mc (get_or ms d none)) cs)
       ∙ and_swap (disjoint vs seen mc) _ _ (apart vs ms cs)
 
-  pub apart_is : (cs : List ℕ) → apart_masks 0 (map (mask n) ms) cs ≡ apart (up_to 1 n) ms cs
-  apart_is cs =
-      ap (λ y. apart_masks y (map (mask n) ms) cs) (sym (mask_none n)) ∙ apart_seen none cs
+  pub apart_is : (cs : List ℕ) → every (under i) cs ≡ true → apart_masks 0 before cs ≡ apart (up_to 1 n) ms cs
+  apart_is cs e =
+      ap (λ y. apart_masks y before cs) (sym (mask_none n)) ∙ apart_seen none cs e
       ∙ ap (λ b. b && apart (up_to 1 n) ms cs) (every_true (λ d. disjoint (up_to 1 n) none (get_or ms d none)) cs (λ d. every_true (λ v. not (none v && get_or ms d none v)) (up_to 1 n) (λ v. refl)))
-
-  -- the union of several sets
-  union_seen : (seen : Vars) (cs : List ℕ) → or_masks (mask n seen) (map (mask n) ms) cs ≡ mask n (λ x. seen x || some (λ c. get_or ms c none x) cs)
-  union_seen seen [] = ap (mask n) (fun_ext (λ x. sym (or_none (seen x))))
-  union_seen seen (c ∷ cs) =
-      ap (λ m. or_masks (bit_or (mask n seen) m) (map (mask n) ms) cs) (getD_mask n ms c)
-      ∙ ap (λ m. or_masks m (map (mask n) ms) cs) (packed_or 1 n seen (get_or ms c none))
-      ∙ union_seen (λ x. seen x || get_or ms c none x) cs
-      ∙ ap (mask n) (fun_ext (λ x. or_assoc (seen x) (get_or ms c none x) (some (λ d. get_or ms d none x) cs)))
-
-  pub union_is : (cs : List ℕ) → or_masks 0 (map (mask n) ms) cs ≡ mask n (λ x. some (λ c. get_or ms c none x) cs)
-  union_is cs = ap (λ m. or_masks m (map (mask n) ms) cs) (sym (mask_none n)) ∙ union_seen none cs

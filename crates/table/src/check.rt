@@ -2,12 +2,14 @@
 ghost use Rattle.std.specs.Prelude.{◌≡◌, ◌≤◌, true, length, is_ok, Decides};
 ghost use Rattle.table.specs.Sound.{verdict};
 ghost use Rattle.table.specs.Nodes.{shapes, roles_of};
+ghost use Rattle.table.specs.Masks.{mentions_in};
 ghost use Rattle.table.specs.Check.{counts_within, answer_by, check_says};
 ghost use Rattle.table.specs.Facts.{Accepts, Means};
 
 use crate::fault::{Fault, Flaw};
+use crate::known::NodeSets;
 use crate::mentions::Mentions;
-use crate::node::{Before, flaw_of, leaves_of, set_of};
+use crate::node::{flaw_of, sets_of};
 use crate::sets::chance_set;
 use text::fault::{Fault as TextFault, Reason};
 use text::record::{Node, Variables};
@@ -17,13 +19,6 @@ pub fn check(nodes: &[Node], children: &[u16], variables: &Variables) -> Result<
     ensures answer { result ≡ check_says variables.now nodes.now children.now }
     ensures yes { Decides (is_ok result) (Accepts variables.now nodes.now children.now) }
     ensures meaning { is_ok result ≡ true → Means variables.now nodes.now children.now }
-{
-    check_all(nodes, children, variables)
-}
-
-/// The limits, then the nodes.
-fn check_all(nodes: &[Node], children: &[u16], variables: &Variables) -> Result<Mentions, Fault>
-    ensures { result ≡ check_says variables.now nodes.now children.now }
 {
     if !counts_within(nodes, variables) {
         return Err(Fault::Text(TextFault::Line {
@@ -55,32 +50,32 @@ fn check_nodes(nodes: &[Node], children: &[u16], variables: &Variables) -> Resul
 {
     let count = variables.as_slice().len();
     let chances = chance_set(variables);
-    let mut sets = [0u64; 4096];
-    let mut on_leaves = [0u64; 4096];
-    let mut off_leaves = [0u64; 4096];
-    for i in 0..nodes.len() {
-        let node = nodes[i];
-        let before = Before {
-            sets: &sets[0..i],
-            on_leaves: &on_leaves[0..i],
-            off_leaves: &off_leaves[0..i],
-        };
-        if let Some(flaw) = flaw_of(node, children, before, count, chances) {
+    let mut known = [NodeSets::default(); 4096];
+    for (i, node) in nodes.iter().enumerate() {
+        let before = &known[..i];
+        if let Some(flaw) = flaw_of(*node, children, before, count, chances) {
             return Err(Fault::Node { flaw, node: i });
         }
-        let set = set_of(node, children, before.sets);
-        let on = leaves_of(node, set, nodes, children, before.sets, true);
-        let off = leaves_of(node, set, nodes, children, before.sets, false);
-        sets[i] = set;
-        on_leaves[i] = on;
-        off_leaves[i] = off;
+        known[i] = sets_of(*node, nodes, children, before);
     }
     let root = nodes.len() - 1;
-    if sets[root] & chances != chances {
+    if known[root].mentions & chances != chances {
         return Err(Fault::Node {
             flaw: Flaw::Missing,
             node: root,
         });
     }
-    Ok(Mentions { sets })
+    Ok(mentions_of(&known[..nodes.len()]))
+}
+
+/// What the nodes mention, of which the sets are known.
+fn mentions_of(known: &[NodeSets]) -> Mentions
+    requires { length known.now ≤ 4096 }
+    ensures { result ≡ mentions_in known.now }
+{
+    let mut sets = [0; 4096];
+    for (i, node) in known.iter().enumerate() {
+        sets[i] = node.mentions;
+    }
+    Mentions { sets }
 }

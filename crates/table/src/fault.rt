@@ -1,11 +1,11 @@
 //! Why a table is refused.
-ghost use Rattle.std.specs.Prelude.{◌≡◌};
 ghost use Rattle.table.specs.Faults.{fault_number, fault_place, fault_layer};
 
 use text::fault::{Fault as TextFault, Layer};
+use text::refusal::Refusal;
 
 /// What is wrong with a node.
-#[derive(Clone, Copy)]
+#[derive(Clone, Copy, Debug, PartialEq, Eq)]
 pub enum Flaw {
     /// A child's number is not below the node's.
     Order,
@@ -22,17 +22,20 @@ pub enum Flaw {
 }
 
 /// Why a table is refused: by the reader, or for a node of its circuit.
-#[derive(Clone, Copy)]
+#[derive(Clone, Copy, Debug, PartialEq, Eq)]
 pub enum Fault {
     Text(TextFault),
     Node { flaw: Flaw, node: usize },
 }
 
-impl Fault {
-    /// The refusal's number.
-    pub fn number(self) -> u8
-        ensures { result ≡ fault_number self }
-    {
+impl Refusal for Fault {
+    ghost numbered = { fault_number };
+
+    ghost placed = { fault_place };
+
+    ghost layered = { fault_layer };
+
+    fn number(self) -> u8 {
         match self {
             Fault::Text(fault) => fault.number(),
             Fault::Node { flaw, node: _ } => match flaw {
@@ -46,20 +49,14 @@ impl Fault {
         }
     }
 
-    /// The line or the node of the fault, or 0.
-    pub fn place(self) -> usize
-        ensures { result ≡ fault_place self }
-    {
+    fn place(self) -> usize {
         match self {
             Fault::Text(fault) => fault.place(),
             Fault::Node { flaw: _, node } => node,
         }
     }
 
-    /// The layer that the fault comes from.
-    pub fn layer(self) -> Layer
-        ensures { result ≡ fault_layer self }
-    {
+    fn layer(self) -> Layer {
         match self {
             Fault::Text(fault) => fault.layer(),
             Fault::Node { flaw: _, node: _ } => Layer::Table,

@@ -3,7 +3,9 @@
 
 pub mod build;
 pub mod check;
+mod convert;
 pub mod fault;
+mod known;
 pub mod mentions;
 mod node;
 pub mod questions;

@@ -4,7 +4,7 @@ ghost use Rattle.table.specs.Facts.{about};
 ghost use Rattle.table.specs.Sound.{is_option, known};
 ghost use Rattle.table.specs.Whole.{circuit, roles};
 
-use crate::sets::bit_of;
+use crate::sets::{bit_of, is_known};
 use crate::table::Table;
 use text::record::Role;
 
@@ -13,33 +13,26 @@ impl Table<'_> {
     pub fn has_variable(&self, variable: u16) -> bool
         ensures { result ≡ known (length (roles self.now)) variable }
     {
-        variable > 0 && variable as usize <= self.variables.as_slice().len()
+        is_known(variable, self.variables.as_slice().len())
     }
 
     /// Whether a node mentions a variable.
     pub fn does_mention(&self, node: usize, variable: u16) -> bool
         ensures { result ≡ about (circuit self.now) node variable }
     {
-        if node >= self.nodes.len() {
-            return false;
-        }
-        if !self.has_variable(variable) {
-            return false;
-        }
-        self.mentions.sets[node] & bit_of(variable) != 0
+        node < self.nodes.len()
+            && self.has_variable(variable)
+            && self.mentions.sets[node] & bit_of(variable) != 0
     }
 
     /// Whether a variable is one of the table's options.
     pub fn has_option(&self, variable: u16) -> bool
         ensures { result ≡ is_option (roles self.now) variable }
     {
-        if !self.has_variable(variable) {
-            return false;
-        }
-        let asked = self.variables.as_slice()[variable as usize - 1];
-        match asked.role {
-            Role::Option => true,
-            Role::Chance => false,
-        }
+        self.has_variable(variable)
+            && matches!(
+                self.variables.as_slice()[variable as usize - 1].role,
+                Role::Option
+            )
     }
 }

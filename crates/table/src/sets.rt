@@ -3,11 +3,13 @@ ghost use Rattle.std.specs.Prelude.{◌≡◌, ◌<◌, ◌≤◌, true, length,
 ghost use Rattle.table.specs.Circuit.{every};
 ghost use Rattle.table.specs.Sound.{known};
 ghost use Rattle.table.specs.Nodes.{no_node, stretch, roles_of};
-ghost use Rattle.table.specs.Masks.{under, bit, chance_bit, chance_mask, apart_masks, or_masks, leaf_mask, leaf_masks};
+ghost use Rattle.table.specs.Masks.{under, bit, chance_bit, chance_mask, apart_masks, nothing, literal_sets, with_child, with_children};
 
+use crate::known::NodeSets;
 use text::record::{Form, Node, Role, Variables};
 
 /// A number that no node has: there are at most 4096 nodes.
+// Not an Option: a shape names its children by number, also where a record names none.
 const NO_NODE: u16 = 65535;
 
 /// Whether a variable is one of `count`.
@@ -25,48 +27,39 @@ pub(crate) fn bit_of(variable: u16) -> u64
     1 << (variable - 1)
 }
 
-/// 1 for a chance.
-fn chance_bit(role: Role) -> u64
-    ensures { result ≡ chance_bit role }
-{
-    match role {
-        Role::Option => 0,
-        Role::Chance => 1,
-    }
-}
-
 /// The set of the chances.
 pub(crate) fn chance_set(variables: &Variables) -> u64
     ensures { result ≡ chance_mask (roles_of variables.now) }
 {
-    let all = variables.as_slice();
-    let mut set = 0;
-    for i in (0..all.len()).rev() {
-        set = set * 2 + chance_bit(all[i].role);
-    }
-    set
+    variables
+        .as_slice()
+        .iter()
+        .rev()
+        .fold(0, |set, variable| set << 1 | chance_bit(variable.role))
+}
+
+/// 1 for a chance.
+fn chance_bit(role: Role) -> u64
+    ensures { result ≡ chance_bit role }
+{
+    u64::from(matches!(role, Role::Chance))
 }
 
 /// Whether each child's number is below the node's.
 pub(crate) fn all_below(children: &[u16], node: usize) -> bool
     ensures { result ≡ every (under node) children.now }
 {
-    for c in children {
-        if *c as usize >= node {
-            return false;
-        }
-    }
-    true
+    children.iter().all(|c| (*c as usize) < node)
 }
 
 /// Whether no two children mention one variable.
-pub(crate) fn all_apart(children: &[u16], sets: &[u64]) -> bool
-    requires { every (under (length sets.now)) children.now ≡ true }
-    ensures { result ≡ apart_masks 0 sets.now children.now }
+pub(crate) fn all_apart(children: &[u16], before: &[NodeSets]) -> bool
+    requires { every (under (length before.now)) children.now ≡ true }
+    ensures { result ≡ apart_masks 0 before.now children.now }
 {
     let mut seen = 0;
     for c in children {
-        let set = sets[*c as usize];
+        let set = before[*c as usize].mentions;
         if seen & set != 0 {
             return false;
         }
@@ -75,53 +68,58 @@ pub(crate) fn all_apart(children: &[u16], sets: &[u64]) -> bool
     true
 }
 
-/// The variables that the children mention.
-pub(crate) fn union(children: &[u16], sets: &[u64]) -> u64
-    requires { every (under (length sets.now)) children.now ≡ true }
-    ensures { result ≡ or_masks 0 sets.now children.now }
-{
-    let mut seen = 0;
-    for c in children {
-        seen |= sets[*c as usize];
+impl NodeSets {
+    /// What is known of a literal.
+    pub(crate) fn of_literal(variable: u16, on: bool) -> NodeSets
+        requires { (0 < variable) × (variable ≤ 64) }
+        ensures { result ≡ literal_sets variable on }
+    {
+        let bit = bit_of(variable);
+        NodeSets {
+            mentions: bit,
+            on: if on { bit } else { 0 },
+            off: if on { 0 } else { bit },
+        }
     }
-    seen
-}
 
-/// The set of a node if it is a literal that is on (or off), else the empty set.
-pub(crate) fn leaf_set(form: Form, set: u64, on: bool) -> u64
-    ensures { result ≡ leaf_mask on set form }
-{
-    match form {
-        Form::Literal {
-            variable: _,
-            on: side,
-        } => if side == on { set } else { 0 },
-        Form::And | Form::Fork { variable: _ } | Form::True | Form::False => 0,
+    /// What is known of an and.
+    pub(crate) fn of_and(children: &[u16], nodes: &[Node], before: &[NodeSets]) -> NodeSets
+        requires below { every (under (length before.now)) children.now ≡ true }
+        requires within { length before.now ≤ length nodes.now }
+        ensures { result ≡ with_children nothing nodes.now before.now children.now }
+    {
+        let mut sets = NodeSets::default();
+        for c in children {
+            let place = *c as usize;
+            sets = sets.with_child(nodes[place].form, before[place]);
+        }
+        sets
     }
-}
 
-/// The variables whose on (or off) literal is among the children.
-pub(crate) fn leaf_union(children: &[u16], nodes: &[Node], sets: &[u64], on: bool) -> u64
-    requires { (every (under (length sets.now)) children.now ≡ true) × (length sets.now ≤ length nodes.now) }
-    ensures { result ≡ leaf_masks on 0 nodes.now sets.now children.now }
-{
-    let mut seen = 0;
-    for c in children {
-        let place = *c as usize;
-        seen |= leaf_set(nodes[place].form, sets[place], on);
+    /// What is known of an and with one child more: it mentions all that the child mentions, and
+    /// has its literal if it is one.
+    fn with_child(self, form: Form, child: NodeSets) -> NodeSets
+        ensures { result ≡ with_child self form child }
+    {
+        let mentions = self.mentions | child.mentions;
+        match form {
+            Form::Literal { variable: _, on: _ } => NodeSets {
+                mentions,
+                on: self.on | child.on,
+                off: self.off | child.off,
+            },
+            Form::And | Form::Fork { variable: _ } | Form::True | Form::False => {
+                NodeSets { mentions, ..self }
+            }
+        }
     }
-    seen
 }
 
 /// The number of a child, or one that no node has.
 pub(crate) fn child(children: &[u16], place: usize) -> usize
     ensures { result ≡ slice_index_or children.now place no_node }
 {
-    if place < children.len() {
-        children[place] as usize
-    } else {
-        NO_NODE as usize
-    }
+    children.get(place).copied().unwrap_or(NO_NODE) as usize
 }
 
 /// The children of an and: its stretch of the store, or a number that no node has.
@@ -129,10 +127,7 @@ pub(crate) fn stretch_of(children: &[u16], first: u16, count: u16) -> &[u16]
     ensures { result.now ≡ stretch children.now first count }
 {
     let first = first as usize;
-    let end = first + count as usize;
-    if end <= children.len() {
-        &children[first..end]
-    } else {
-        &[NO_NODE]
-    }
+    children
+        .get(first..first + count as usize)
+        .unwrap_or(&[NO_NODE])
 }

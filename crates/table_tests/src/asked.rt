@@ -4,7 +4,6 @@ use crate::large::large;
 use crate::stores::Stores;
 use std::process::Abort;
 use std::test::Fail;
-use table::check::check as check_table;
 use table::table::Table;
 
 // A node, a variable, and whether the node mentions it.
@@ -87,9 +86,8 @@ fn check_asked(
 ) -> Result<(), Fail> {
     let nodes = stores.nodes.as_slice();
     let children = stores.children.as_slice();
-    let table = match check_table(nodes, children, &stores.variables) {
-        Ok(sets) => Table::new(nodes, children, stores.variables, sets),
-        Err(_) => return Err(Fail::new(format_args!("refused: {case}"))),
+    let Ok(table) = Table::check(nodes, children, stores.variables) else {
+        return Err(Fail::new(format_args!("refused: {case}")));
     };
     for (node, variable, due) in mentions {
         assert_eq!(rt;

@@ -2,6 +2,7 @@
 use crate::files::file;
 use crate::stores::check_file;
 use std::alloc::{AllocError, Global};
+use std::fmt::Write;
 use std::test::Fail;
 
 // 20 options and 44 chances.
@@ -16,18 +17,15 @@ const ROLES: &str = "EEEEEEEEEEEEEEEEEEEERRRRRRRRRRRRRRRRRRRRRRRRRRRRRRRRRRRRRRR
 //   257 to 4094  an and of the node before and twice node 0
 fn rootless(heap: Global) -> Result<String, AllocError> {
     let mut nodes = String::from_str(heap, "T")?;
-    let mut last = 0usize;
-    for i in 1..65usize {
-        let on = last.wrapping_add(1);
-        let off = last.wrapping_add(2);
-        let fork = last.wrapping_add(3);
-        let four = format!(in heap; "/L {i}/L -{i}/O {i} {on} {off}/A {last} {fork}")?;
-        nodes.push_str(four.as_str())?;
-        last = last.wrapping_add(4);
+    for v in 1..65usize {
+        let last = 4 * v - 4;
+        let on = last + 1;
+        let off = last + 2;
+        let fork = last + 3;
+        write!(nodes, "/L {v}/L -{v}/O {v} {on} {off}/A {last} {fork}")?;
     }
-    for i in 256..4094usize {
-        let node = format!(in heap; "/A {i} 0 0")?;
-        nodes.push_str(node.as_str())?;
+    for last in 256..4094usize {
+        write!(nodes, "/A {last} 0 0")?;
     }
     Ok(nodes)
 }
@@ -48,18 +46,13 @@ pub(crate) fn large(heap: Global) -> Result<String, AllocError> {
 // What its nodes mention.
 fn large_sets(heap: Global) -> Result<Vec<u64>, AllocError> {
     let mut sets = vec![in heap; 0u64; 1]?;
-    let mut one = 1u64;
     let mut all = 0u64;
-    for _ in 0..64usize {
-        all = all | one;
-        for set in [one, one, one, all] {
-            sets.push(set)?;
-        }
-        one = one.wrapping_mul(2);
+    for v in 1..65u32 {
+        let one = 1u64 << (v - 1);
+        all |= one;
+        sets.extend_from_slice(&[one, one, one, all])?;
     }
-    for _ in 257..4096usize {
-        sets.push(u64::MAX)?;
-    }
+    sets.resize(4096, u64::MAX)?;
     Ok(sets)
 }
 

@@ -1,6 +1,6 @@
 //! Records that no reader wrote.
 use crate::files::file;
-use crate::stores::{Refusal, Stores, check_answer};
+use crate::stores::{Due, Stores, check_answer};
 use std::test::Fail;
 use text::record::{Form, Node, Variables};
 
@@ -22,45 +22,43 @@ const OFF: Node = Node {
     count: 0,
 };
 
-// Whether a third node behind the two literals is a fork (or an and), where its children begin and
-// how many they are, the child store, and the number of the refusal for one chance, or 0 for none.
-const CASES: &[(bool, u16, u16, &[u16], u8)] = &[
+const FORK: Form = Form::Fork { variable: 1 };
+
+// What a third node behind the two literals is, where its children begin and how many they are,
+// the child store, and the number of the refusal for one chance, or 0 for none.
+const CASES: &[(Form, u16, u16, &[u16], u8)] = &[
     // an and whose children pass the end of the store
-    (false, 0, 2, &[0], 8),
-    (false, 1, 1, &[0], 8),
-    (false, 0, 1, &[], 8),
-    (false, 65535, 1, &[0, 1], 8),
-    (false, 1, 65535, &[0, 1], 8),
-    (false, 65535, 65535, &[0, 1], 8),
+    (Form::And, 0, 2, &[0], 8),
+    (Form::And, 1, 1, &[0], 8),
+    (Form::And, 0, 1, &[], 8),
+    (Form::And, 65535, 1, &[0, 1], 8),
+    (Form::And, 1, 65535, &[0, 1], 8),
+    (Form::And, 65535, 65535, &[0, 1], 8),
     // a fork whose children do
-    (true, 0, 2, &[0], 8),
-    (true, 0, 2, &[], 8),
-    (true, 1, 2, &[0, 1], 8),
-    (true, 2, 2, &[0, 1], 8),
-    (true, 65534, 2, &[0, 1], 8),
-    (true, 65535, 2, &[0, 1], 8),
+    (FORK, 0, 2, &[0], 8),
+    (FORK, 0, 2, &[], 8),
+    (FORK, 1, 2, &[0, 1], 8),
+    (FORK, 2, 2, &[0, 1], 8),
+    (FORK, 65534, 2, &[0, 1], 8),
+    (FORK, 65535, 2, &[0, 1], 8),
     // children that end with the store, or before
-    (false, 1, 1, &[9, 0], 0),
-    (false, 1, 1, &[9, 0, 9], 0),
-    (true, 1, 2, &[9, 0, 1], 0),
-    (true, 1, 2, &[9, 0, 1, 9], 0),
-    (false, 1, 0, &[0], 13),
+    (Form::And, 1, 1, &[9, 0], 0),
+    (Form::And, 1, 1, &[9, 0, 9], 0),
+    (FORK, 1, 2, &[9, 0, 1], 0),
+    (FORK, 1, 2, &[9, 0, 1, 9], 0),
+    (Form::And, 1, 0, &[0], 13),
     // a number in the store that no node has
-    (false, 1, 1, &[0, 65535], 8),
-    (true, 0, 2, &[0, 65535], 8),
+    (Form::And, 1, 1, &[0, 65535], 8),
+    (FORK, 0, 2, &[0, 65535], 8),
 ];
 
 #[test]
 fn records(rt: HostRuntime) -> Result<(), Fail> {
     let text = file("R", "T", rt.alloc())?;
     let variables = Stores::read(text.as_str(), rt.alloc())?.variables;
-    for (is_fork, first, count, children, number) in CASES {
+    for (form, first, count, children, number) in CASES {
         let node = Node {
-            form: if *is_fork {
-                Form::Fork { variable: 1 }
-            } else {
-                Form::And
-            },
+            form: *form,
             first: *first,
             count: *count,
         };
@@ -79,7 +77,7 @@ fn records(rt: HostRuntime) -> Result<(), Fail> {
 }
 
 // How many true nodes, how many options, and the refusal.
-const COUNTS: &[(usize, u8, Refusal)] = &[
+const COUNTS: &[(usize, u8, Due)] = &[
     (1, 1, (0, 0)),
     (4096, 20, (0, 0)),
     (0, 1, (4, 1)),

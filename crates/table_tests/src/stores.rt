@@ -8,9 +8,10 @@ use table::mentions::Mentions;
 use text::fault::Layer;
 use text::reader::read_table;
 use text::record::{Form, Node, Variables};
+use text::refusal::Refusal;
 
 /// The number and the place of a refusal, or twice 0 for none.
-pub type Refusal = (u8, usize);
+pub type Due = (u8, usize);
 
 const MARK: Node = Node {
     form: Form::And,
@@ -54,7 +55,7 @@ impl Stores {
 pub(crate) fn check_file(
     rt: &impl Abort,
     file: &str,
-    due: Refusal,
+    due: Due,
     sets: &[u64],
     heap: Global,
     case: &impl Display,
@@ -78,7 +79,7 @@ pub(crate) fn check_answer(
     nodes: &[Node],
     children: &[u16],
     variables: &Variables,
-    due: Refusal,
+    due: Due,
     sets: &[u64],
     case: &impl Display,
 ) {

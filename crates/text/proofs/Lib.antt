@@ -1,7 +1,6 @@
 pub mod Cuts
 pub mod Names
 pub mod Says
-pub mod Entries
 pub mod Decimals
 pub mod Stores
 pub mod Limits
@@ -9,3 +8,4 @@ pub mod Sections
 pub mod Runs
 pub mod Printable
 pub mod Filled
+pub mod Printed

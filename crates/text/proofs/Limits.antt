@@ -1,5 +1,6 @@
 -- What an accepted header line says of its counts. Assumes nothing.
-use Rattle.std.proofs.Common.{◌≡◌, ℕ, ◌≤◌, Bool, true, false, ◌&&◌, leb, List, [], ◌∷◌, Ok, Err, refl, subst, arith}
+use Rattle.std.proofs.Common.{◌≡◌, ℕ, ◌≤◌, Bool, true, false, ◌&&◌, leb, List, [], ◌∷◌, Ok, Err, Result, sym, refl, ap, subst, arith}
+use Rattle.std.specs.Result.{MatchResult, IsErrAnd}
 use Rattle.std.proofs.lemmas.Bool.{and_parts, leb-true}
 use Rattle.text.specs.declared.fault.Reason.{Reason}
 use Rattle.text.specs.declared.fault.Reason.TheVariants as reason
@@ -11,6 +12,9 @@ never r x e = let z : ◌≡◌ {A = ℕ} 0 1 = cc in absurd (omega arith)
 
 pub same_ok : {A : Type 0} (x y : A) → ◌≡◌ {A = Said A} (Ok x) (Ok y) → x ≡ y
 same_ok x y e = cc
+
+pub same_err : {A : Type 0} (r q : Reason) → ◌≡◌ {A = Said A} (Err r) (Err q) → r ≡ q
+same_err r q e = cc
 
 pub provided_ok : {A : Type 0} (b : Bool) (r : Reason) (s : Said A) (x : A) → provided b r s ≡ Ok x → (b ≡ true) × (s ≡ Ok x)
 provided_ok true r s x e = (refl, e)
@@ -47,3 +51,19 @@ header_limits rooms (a ∷ b ∷ c ∷ []) h e =
     let u = provided_ok (leb q.0 rooms.nodes && leb s.0 rooms.children) reason.Store _ h t.1 in
     subst (Limits rooms) (same_ok _ _ u.1) (limits_of rooms p.0 q.0 s.0 t.0 u.0)
 header_limits rooms (a ∷ b ∷ c ∷ d ∷ fs) h e = never reason.Line h e
+
+-- what `map_err` was given, by what it gave
+module _ {T E F : Type 0} (r : Result T E) (q : Result T F) (P : E → F → Type 0) (by : MatchResult r (λ x. q ≡ Ok x) (λ e. IsErrAnd q (P e))) where
+  pub before_ok : (u : T) → q ≡ Ok u → r ≡ Ok u
+  before_ok u is = go r (rw is at by)
+    where
+      go : (r : Result T E) → MatchResult r (λ x. ◌≡◌ {A = Result T F} (Ok u) (Ok x)) (λ e. IsErrAnd (Ok u) (P e)) → r ≡ Ok u
+      go (Ok x) h = let same : u ≡ x = cc in ap Ok (sym same)
+      go (Err e) h = absurd h
+
+  pub before_err : (f : F) → q ≡ Err f → (e : E) × (r ≡ Err e) × P e f
+  before_err f is = go r (rw is at by)
+    where
+      go : (r : Result T E) → MatchResult r (λ x. ◌≡◌ {A = Result T F} (Err f) (Ok x)) (λ e. IsErrAnd {T = T} (Err f) (P e)) → (e : E) × (r ≡ Err e) × P e f
+      go (Ok x) h = let z : ◌≡◌ {A = ℕ} 0 1 = cc in absurd (omega arith)
+      go (Err e) h = (e, refl, h)

@@ -1,5 +1,6 @@
 -- The names of an accepted file are printable. Assumes nothing.
 use Rattle.std.proofs.Common.{◌≡◌, ℕ, zero, suc, ◌+◌, ◌≤◌, min, Bool, true, false, cond, not, ◌&&◌, eqb, leb, List, [], ◌∷◌, ◌++◌, length, take, replicate, Some, None, Ok, Err, Option, Result, refl, ap, ◌∙◌, subst, arith}
+use Rattle.std.specs.List.{onto_first}
 use Rattle.std.proofs.lemmas.Bool.{and_parts, and_from, leb-true}
 use Rattle.text.specs.declared.fault.Fault.{Fault}
 use Rattle.text.specs.declared.fault.Fault.TheVariants as fault
@@ -10,7 +11,7 @@ use Rattle.text.specs.declared.kind.Section.TheVariants as section
 use Rattle.text.specs.declared.record.Contents.{Contents}
 use Rattle.text.specs.declared.record.Role.{Role}
 use Rattle.text.specs.declared.record.Variable.{Variable}
-use Rattle.text.specs.Lines.{every, printable, onto, lines, fields}
+use Rattle.text.specs.Lines.{every, printable, lines, fields}
 use Rattle.text.specs.Format.{Said, Rooms, Sofar, Reading, number_field, role_of, blank, listed, is_named, one_if_option, options, follows_rules, said_variable, header_says, variable_says, entry_says, fitting, is_header, is_variable, section_at, kind_of, by_section, by_fields, line_says, is_complete, accepted, refused, read_on, nothing_yet, file_says, named_printable}
 use Rattle.text.proofs.Limits.{never, same_ok, provided_ok, then_ok}
 use Rattle.text.proofs.Names.{spelled_name_of}
@@ -31,8 +32,8 @@ module _ {A : Type 0} (p : A → Bool) where
   every_replicate (suc n) x h = and_from (p x) (every p (replicate n x)) h (every_replicate n x h)
 
 -- the fields of a printable line are printable
-onto_printable : (x : ℕ) (fs : List (List ℕ)) → printable x ≡ true → every (every printable) fs ≡ true → every (every printable) (onto x fs) ≡ true
-onto_printable x [] h k = refl
+onto_printable : (x : ℕ) (fs : List (List ℕ)) → printable x ≡ true → every (every printable) fs ≡ true → every (every printable) (onto_first x fs) ≡ true
+onto_printable x [] h k = and_from (printable x && true) true (and_from (printable x) true h refl) refl
 onto_printable x (f ∷ fs) h k =
     let q = and_parts (every printable f) (every (every printable) fs) k in
     and_from (printable x && every printable f) (every (every printable) fs) (and_from (printable x) (every printable f) h q.0) q.1
@@ -42,7 +43,7 @@ fields_printable [] h = refl
 fields_printable (x ∷ xs) h =
     let q = and_parts (printable x) (every printable xs) h in
     let more = fields_printable xs q.1 in
-    elim (eqb x 9) as (λ t. every (every printable) (cond t ([] ∷ fields xs) (onto x (fields xs))) ≡ true) [
+    elim (eqb x 9) as (λ t. every (every printable) (cond t ([] ∷ fields xs) (onto_first x (fields xs))) ≡ true) [
       | true ↦ more
       | false ↦ onto_printable x (fields xs) q.0 more
     ]

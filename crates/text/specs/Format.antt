@@ -4,7 +4,8 @@
 -- comes the header, then a line for each variable, then a line for each node.
 use Rattle.std.specs.Prelude.{ℕ, ◌+◌, min, Bool, true, false, cond, not, ◌&&◌, ◌||◌, List, [], ◌∷◌, ◌++◌, map, length, take, drop, replicate, is_some, Some, None, Ok, Err, Option, Result, ◌==◌, nat_le, nat_lt}
 use Rattle.std.proofs.Math.Nat.{min-le_right}
-use Rattle.std.specs.Option.{unwrap_or}
+use Rattle.std.specs.List.{list_any}
+use Rattle.std.specs.Option.{ok_or, option_map, unwrap_or}
 use Rattle.std.specs.Str.{bytes_eq}
 use Rattle.text.specs.declared.fault.Reason.{Reason}
 use Rattle.text.specs.declared.fault.Reason.TheVariants as reason
@@ -80,8 +81,7 @@ three_fields (a ∷ b ∷ c ∷ d ∷ fs) said = Err reason.Line
 
 -- a field's number
 abbrev pub said_number : Option ℕ → Said ℕ
-said_number None = Err reason.Number
-said_number (Some n) = Ok n
+said_number o = ok_or o reason.Number
 
 abbrev pub number_field : List ℕ → Said ℕ
 number_field f = said_number (number f)
@@ -115,8 +115,7 @@ abbrev pub role_of : List ℕ → Option Role
 role_of f = cond (bytes_eq f (69 ∷ [])) (Some role.Option) (cond (bytes_eq f (82 ∷ [])) (Some role.Chance) None)
 
 abbrev pub is_named : List ℕ → List Variable → Bool
-is_named f [] = false
-is_named f (v ∷ vs) = bytes_eq (spelled v.name) f || is_named f vs
+is_named f vs = list_any (λ v. bytes_eq (spelled v.name) f) vs
 
 abbrev pub one_if_option : Role → ℕ
 one_if_option role.Option = 1
@@ -134,10 +133,11 @@ follows_rules before number r name =
     (number == length before + 1) && (nat_le 1 (length name) && nat_le (length name) 24)
     && not (is_named name before) && nat_le (options before + one_if_option r) 20
 
+abbrev pub said_ruled : List Variable → ℕ → Role → List ℕ → Said Variable
+said_ruled before number r name = provided (follows_rules before number r name) reason.Variable (Ok (record { role = r; name = name_of name }))
+
 abbrev pub said_variable : List Variable → ℕ → Option Role → List ℕ → Said Variable
-said_variable before number None name = Err reason.Variable
-said_variable before number (Some r) name =
-    provided (follows_rules before number r name) reason.Variable (Ok (record { role = r; name = name_of name }))
+said_variable before number o name = then (ok_or o reason.Variable) (λ r. said_ruled before number r name)
 
 unfoldable pub variable_says : List Variable → List (List ℕ) → Said Variable
 variable_says before fs = three_fields fs (λ a b c. then (number_field a) (λ n. said_variable before n (role_of b) c))
@@ -153,16 +153,14 @@ entry_of f cs = record { form = f; children = cs }
 
 -- a literal: a variable's number, with a minus sign in front for off
 abbrev pub literal_of : Bool → Option ℕ → Option Form
-literal_of on None = None
-literal_of on (Some v) = Some (Literal v on)
+literal_of on o = option_map (λ v. Literal v on) o
 
 abbrev pub literal : List ℕ → Option Form
 literal [] = None
 literal (b ∷ bs) = cond (b == 45) (literal_of false (number bs)) (literal_of true (number (b ∷ bs)))
 
 abbrev pub said_literal : Option Form → Said Entry
-said_literal None = Err reason.Number
-said_literal (Some f) = Ok (entry_of f [])
+said_literal o = then (ok_or o reason.Number) (λ f. Ok (entry_of f []))
 
 abbrev pub is_number : List ℕ → Bool
 is_number f = is_some (number f)

@@ -1,5 +1,7 @@
 pub mod Lines
 pub mod Numerals
+pub mod Printed
 pub mod Faults
 pub mod Format
 pub mod Steps
+pub mod Shown

@@ -1,10 +1,10 @@
 -- A text as lines, and a line as fields. Assumes nothing.
-use Rattle.std.specs.Prelude.{ℕ, suc, Bool, true, cond, ◌&&◌, ◌||◌, List, [], ◌∷◌, ◌==◌, nat_le}
+use Rattle.std.specs.Prelude.{◌≡◌, ℕ, suc, ◌+◌, ◌<◌, length, drop, Bool, cond, ◌&&◌, ◌||◌, List, [], ◌∷◌, ◌==◌, nat_le}
+use Rattle.std.specs.List.{list_all, slice_split}
 
 -- whether a test holds of every element
 abbrev pub every : {A : Type 0} → (A → Bool) → List A → Bool
-every p [] = true
-every p (x ∷ xs) = p x && every p xs
+every p xs = list_all p xs
 
 -- a byte that may stand in a line: a tab, or 32 to 126
 abbrev pub printable : ℕ → Bool
@@ -25,7 +25,11 @@ abbrev pub lines : List ℕ → List (List ℕ)
 lines [] = []
 lines (b ∷ bs) = cond (b == 10) ([] ∷ lines bs) (onto b (lines bs))
 
+-- a text begins with a line, which a byte 10 ends
+pub record BeginsWithLine (text line : List ℕ) : Type 0 where
+  pub within : length line < length text
+  pub lines_are : lines text ≡ line ∷ lines (drop (length line + 1) text)
+
 -- the fields of a line, parted by tabs; there is always at least one
 abbrev pub fields : List ℕ → List (List ℕ)
-fields [] = [] ∷ []
-fields (b ∷ bs) = cond (b == 9) ([] ∷ fields bs) (onto b (fields bs))
+fields bs = slice_split (λ b. b == 9) bs

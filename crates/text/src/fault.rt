@@ -1,10 +1,11 @@
 //! Why a table file, or a line of a weight text, is refused.
-ghost use Rattle.std.specs.Prelude.{◌≡◌};
 ghost use Rattle.text.specs.Faults.{fault_number, fault_place};
 ghost use Rattle.text.specs.declared.fault.Layer.TheVariants.{Text};
 
+use crate::refusal::Refusal;
+
 /// What is wrong with a line.
-#[derive(Clone, Copy)]
+#[derive(Clone, Copy, Debug, PartialEq, Eq)]
 pub enum Reason {
     /// The line is missing or not closed, has a foreign byte, is not due or has not its fields.
     Line,
@@ -21,7 +22,7 @@ pub enum Reason {
 }
 
 /// Why a file is refused.
-#[derive(Clone, Copy)]
+#[derive(Clone, Copy, Debug, PartialEq, Eq)]
 pub enum Fault {
     /// The file is empty or too long.
     Length,
@@ -30,18 +31,21 @@ pub enum Fault {
 }
 
 /// The layer that a fault comes from.
-#[derive(Clone, Copy)]
+#[derive(Clone, Copy, Debug, PartialEq, Eq)]
 pub enum Layer {
     Text,
     Table,
     Study,
 }
 
-impl Fault {
-    /// The refusal's number.
-    pub fn number(self) -> u8
-        ensures { result ≡ fault_number self }
-    {
+impl Refusal for Fault {
+    ghost numbered = { fault_number };
+
+    ghost placed = { fault_place };
+
+    ghost layered = { λ _. Text };
+
+    fn number(self) -> u8 {
         match self {
             Fault::Length => 1,
             Fault::Line { reason, line: _ } => match reason {
@@ -55,19 +59,14 @@ impl Fault {
         }
     }
 
-    /// The line of the fault, or 0.
-    pub fn place(self) -> usize
-        ensures { result ≡ fault_place self }
-    {
+    fn place(self) -> usize {
         match self {
             Fault::Length => 0,
             Fault::Line { reason: _, line } => line,
         }
     }
 
-    pub fn layer(self) -> Layer
-        ensures { result ≡ Text }
-    {
+    fn layer(self) -> Layer {
         Layer::Text
     }
 }

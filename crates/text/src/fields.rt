@@ -1,6 +1,6 @@
 //! The bytes and the fields of a line.
-ghost use Rattle.std.specs.Prelude.{◌≡◌, ◌<◌, ◌≤◌, [], length, drop, slice_index_or};
-ghost use Rattle.text.specs.Lines.{every, printable, index_of, fields};
+ghost use Rattle.std.specs.Prelude.{◌≡◌, ◌≤◌, [], length, slice_index_or, MatchOption};
+ghost use Rattle.text.specs.Lines.{every, printable, index_of, lines, fields, BeginsWithLine};
 
 /// The byte between two fields.
 pub const TAB: u8 = 9;
@@ -13,69 +13,41 @@ pub fn find(text: &[u8], byte: u8) -> usize
     ensures value { result ≡ index_of byte text.now }
     ensures within { result ≤ length text.now }
 {
-    for (i, b) in text.iter().enumerate() {
-        if *b == byte {
-            return i;
-        }
-    }
-    text.len()
+    text.iter().position(|b| *b == byte).unwrap_or(text.len())
+}
+
+/// The first line of a text, without the byte that ends it, if the text has one.
+pub fn first_line(text: &[u8]) -> Option<&[u8]>
+    ensures { MatchOption result (lines text.now ≡ []) (λ l. BeginsWithLine text.now l.now) }
+{
+    let end = text.iter().position(|b| *b == NEWLINE)?;
+    Some(&text[..end])
 }
 
 /// Whether a byte may stand in a line: a tab, or 32 to 126.
 pub(crate) fn is_printable(byte: u8) -> bool
     ensures { result ≡ printable byte }
 {
-    byte == TAB || (byte >= 32 && byte <= 126)
+    matches!(byte, TAB | 32..=126)
 }
 
 /// Whether each byte of a line may stand there.
 pub fn all_printable(line: &[u8]) -> bool
     ensures { result ≡ every printable line.now }
 {
-    for b in line {
-        if !is_printable(*b) {
-            return false;
-        }
-    }
-    true
+    line.iter().all(|b| is_printable(*b))
 }
 
 /// How many fields a line has.
 pub fn field_count(line: &[u8]) -> usize
     ensures { result ≡ length (fields line.now) }
 {
-    let mut count = 1;
-    for b in line {
-        if *b == TAB {
-            count += 1;
-        }
-    }
-    count
+    line.split(|b| *b == TAB).count()
 }
 
-/// The part of a line that begins with its field `k`, counted from 0.
-pub(crate) fn from_field(line: &[u8], k: usize) -> &[u8]
-    requires { k < length (fields line.now) }
-    ensures { fields result.now ≡ drop k (fields line.now) }
-{
-    let mut at = 0;
-    for _ in 0..k {
-        at += find(&line[at..], TAB) + 1;
-    }
-    &line[at..]
-}
-
-/// The first field of a line.
-pub(crate) fn first_field(line: &[u8]) -> &[u8]
-    ensures { result.now ≡ slice_index_or (fields line.now) 0 [] }
-{
-    &line[0..find(line, TAB)]
-}
-
-/// The field `k` of a line, counted from 0.
+/// The field `k` of a line, counted from 0, or nothing where the line has no such field.
 pub fn field(line: &[u8], k: usize) -> &[u8]
-    requires { k < length (fields line.now) }
     ensures { result.now ≡ slice_index_or (fields line.now) k [] }
 {
-    first_field(from_field(line, k))
+    line.split(|b| *b == TAB).nth(k).unwrap_or(&[])
 }

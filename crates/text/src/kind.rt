@@ -3,10 +3,10 @@ ghost use Rattle.std.specs.Prelude.{◌≡◌, [], slice_index_or};
 ghost use Rattle.text.specs.Lines.{fields};
 ghost use Rattle.text.specs.Format.{by_letter, kind_of};
 
-use crate::fields::first_field;
+use crate::fields::field;
 
 /// What a line is by its first field.
-#[derive(Clone, Copy)]
+#[derive(Clone, Copy, Debug, PartialEq, Eq)]
 pub enum Kind {
     Header,
     Variable,
@@ -19,7 +19,7 @@ pub enum Kind {
 }
 
 /// The part of the file that the next line belongs to.
-#[derive(Clone, Copy)]
+#[derive(Clone, Copy, Debug, PartialEq, Eq)]
 pub enum Section {
     Header,
     Variables,
@@ -27,18 +27,20 @@ pub enum Section {
 }
 
 /// What a line is by its letter.
-pub(crate) fn letter_kind(letter: u8) -> Kind
-    ensures { result ≡ by_letter letter }
-{
-    match letter {
-        b'G' => Kind::Header,
-        b'V' => Kind::Variable,
-        b'L' => Kind::Literal,
-        b'A' => Kind::And,
-        b'O' => Kind::Fork,
-        b'T' => Kind::True,
-        b'F' => Kind::False,
-        _ => Kind::Other,
+impl From<u8> for Kind {
+    ghost from_gives = { λ letter kind. kind ≡ by_letter letter };
+
+    fn from(letter: u8) -> Kind {
+        match letter {
+            b'G' => Kind::Header,
+            b'V' => Kind::Variable,
+            b'L' => Kind::Literal,
+            b'A' => Kind::And,
+            b'O' => Kind::Fork,
+            b'T' => Kind::True,
+            b'F' => Kind::False,
+            _ => Kind::Other,
+        }
     }
 }
 
@@ -46,10 +48,8 @@ pub(crate) fn letter_kind(letter: u8) -> Kind
 pub(crate) fn line_kind(line: &[u8]) -> Kind
     ensures { result ≡ kind_of (slice_index_or (fields line.now) 0 []) }
 {
-    let first = first_field(line);
-    if first.len() == 1 {
-        letter_kind(first[0])
-    } else {
-        Kind::Other
+    match field(line, 0) {
+        [letter] => Kind::from(*letter),
+        _ => Kind::Other,
     }
 }

@@ -10,4 +10,6 @@ pub mod numeral;
 pub mod progress;
 pub mod reader;
 pub mod record;
+pub mod refusal;
+pub mod shown;
 pub mod variables;

@@ -1,26 +1,22 @@
 //! What the header line and a variable line say.
-ghost use Rattle.std.specs.Prelude.{◌≡◌, ◌<◌, [], length, drop, slice_index_or};
+ghost use Rattle.std.specs.Prelude.{◌≡◌, [], drop, slice_index_or};
 ghost use Rattle.text.specs.Lines.{fields};
-ghost use Rattle.text.specs.Format.{number_field, header_says, role_of, variable_says, listed, Rooms};
+ghost use Rattle.text.specs.Format.{number_field, header_says, role_of, follows_rules, variable_says, listed, Rooms};
 
 use crate::fault::Reason;
 use crate::fields::{field, field_count};
 use crate::numeral::read_number;
 use crate::record::{Header, Name, Role, Variable, Variables};
-use crate::variables::same_bytes;
 
 /// The number in the field `k` of a line.
 pub fn number_field(line: &[u8], k: usize) -> Result<u16, Reason>
-    requires { k < length (fields line.now) }
     ensures { result ≡ number_field (slice_index_or (fields line.now) k []) }
 {
-    match read_number(field(line, k)) {
-        Some(n) => Ok(n),
-        None => Err(Reason::Number),
-    }
+    read_number(field(line, k)).ok_or(Reason::Number)
 }
 
 /// The header line, with the lengths of the two stores.
+#[tactic(auto, unfolding(crate::specs::Format::header_says))]
 pub(crate) fn header_line(
     line: &[u8],
     node_room: usize,
@@ -51,16 +47,29 @@ pub(crate) fn header_line(
 pub(crate) fn role(letter: &[u8]) -> Option<Role>
     ensures { result ≡ role_of letter.now }
 {
-    if same_bytes(letter, b"E") {
-        Some(Role::Option)
-    } else if same_bytes(letter, b"R") {
-        Some(Role::Chance)
-    } else {
-        None
+    match letter {
+        b"E" => Some(Role::Option),
+        b"R" => Some(Role::Chance),
+        _ => None,
     }
 }
 
+/// Whether a variable follows the rules, after the variables before it.
+#[tactic(auto, using(crate::proofs::Says::options_within, crate::proofs::Says::one_within))]
+fn follows_rules(before: &Variables, number: u16, role: Role, name: &[u8]) -> bool
+    ensures { result ≡ follows_rules (listed before.now) number role name.now }
+{
+    let due = before.as_slice().len() + 1;
+    let options = before.options() + usize::from(role == Role::Option);
+    number as usize == due
+        && name.len() >= 1
+        && name.len() <= 24
+        && !before.is_named(name)
+        && options <= 20
+}
+
 /// A variable line, after the variables before it.
+#[tactic(auto, using(crate::proofs::Says::four), unfolding(crate::specs::Format::variable_says))]
 pub(crate) fn variable_line(line: &[u8], before: &Variables) -> Result<Variable, Reason>
     ensures { result ≡ variable_says (listed before.now) (drop 1 (fields line.now)) }
 {
@@ -68,21 +77,9 @@ pub(crate) fn variable_line(line: &[u8], before: &Variables) -> Result<Variable,
         return Err(Reason::Line);
     }
     let number = number_field(line, 1)?;
-    let Some(role) = role(field(line, 2)) else {
-        return Err(Reason::Variable);
-    };
+    let role = role(field(line, 2)).ok_or(Reason::Variable)?;
     let name = field(line, 3);
-    let due = before.as_slice().len() + 1;
-    let options = match role {
-        Role::Option => before.options() + 1,
-        Role::Chance => before.options(),
-    };
-    if number as usize != due
-        || name.len() < 1
-        || name.len() > 24
-        || before.is_named(name)
-        || options > 20
-    {
+    if !follows_rules(before, number, role, name) {
         return Err(Reason::Variable);
     }
     Ok(Variable {

@@ -1,109 +1,83 @@
 //! What a node line says.
 ghost use Rattle.std.specs.Prelude.{◌≡◌, ◌+◌, ◌≤◌, [], map, length, drop, Ok};
-ghost use Rattle.text.specs.Lines.{every, index_of, fields};
+ghost use Rattle.text.specs.Lines.{every, fields};
+ghost use Rattle.text.specs.Numerals.{number};
 ghost use Rattle.text.specs.Format.{is_number, number_or_zero, literal_of, literal, no_field, entry_of};
 ghost use Rattle.text.specs.Steps.{Answers, Heard, written_at};
 ghost use Rattle.text.specs.declared.kind.Kind.TheVariants as kind;
 
 use crate::fault::Reason;
-use crate::fields::{TAB, field, field_count, find, from_field};
+use crate::fields::{TAB, field, field_count};
 use crate::kind::Kind;
 use crate::lines::number_field;
 use crate::numeral::read_number;
 use crate::record::Form;
 
 /// A node line: what the node is, and from which field on the line names its children.
-#[derive(Clone, Copy)]
+#[derive(Clone, Copy, Debug, PartialEq, Eq)]
 pub struct NodeLine {
     pub form: Form,
     pub from: usize,
 }
 
-/// The end of the field that begins at `at`.
-pub(crate) fn field_end(text: &[u8], at: usize) -> usize
-    requires { at ≤ length text.now }
-    ensures value { result ≡ at + index_of 9 (drop at text.now) }
-    ensures within { result ≤ length text.now }
+/// Whether each field of a line from the field `from` on is a number.
+pub(crate) fn all_numbers(line: &[u8], from: usize) -> bool
+    ensures { result ≡ every is_number (drop from (fields line.now)) }
 {
-    at + find(&text[at..], TAB)
+    line.split(|b| *b == TAB)
+        .skip(from)
+        .all(|field| read_number(field).is_some())
 }
 
-/// Whether each field of a text is a number.
-pub(crate) fn all_numbers(text: &[u8]) -> bool
-    ensures { result ≡ every is_number (fields text.now) }
+/// Writes the numbers in the fields of a line from the field `from` on into the store, from place
+/// `first` on.
+pub(crate) fn write_numbers(line: &[u8], from: usize, store: &mut [u16], first: usize)
+    requires { first + length (drop from (fields line.now)) ≤ length store.old }
+    ensures { store.new ≡ written_at first (map number_or_zero (drop from (fields line.now))) store.old }
 {
-    let mut at = 0;
-    loop {
-        let end = field_end(text, at);
-        if read_number(&text[at..end]).is_none() {
-            return false;
-        }
-        if end == text.len() {
-            return true;
-        }
-        at = end + 1;
+    // By place: the proof loses what a zip with `iter_mut` writes.
+    for (i, field) in line.split(|b| *b == TAB).skip(from).enumerate() {
+        store[first + i] = read_number(field).unwrap_or(0);
     }
 }
 
-/// Writes the numbers in the fields of a text into the store, from place `first` on.
-pub(crate) fn write_numbers(text: &[u8], store: &mut [u16], first: usize)
-    requires { first + length (fields text.now) ≤ length store.old }
-    ensures { store.new ≡ written_at first (map number_or_zero (fields text.now)) store.old }
+/// The literal of the variable whose number the digits write.
+fn literal(digits: &[u8], on: bool) -> Option<Form>
+    ensures { result ≡ literal_of on (number digits.now) }
 {
-    let mut at = 0;
-    let mut place = first;
-    loop {
-        let end = field_end(text, at);
-        store[place] = read_number(&text[at..end]).unwrap_or(0);
-        place += 1;
-        if end == text.len() {
-            return;
-        }
-        at = end + 1;
-    }
-}
-
-fn literal_of(number: Option<u16>, on: bool) -> Option<Form>
-    ensures { result ≡ literal_of on number }
-{
-    match number {
-        Some(variable) => Some(Form::Literal { variable, on }),
-        None => None,
-    }
+    read_number(digits).map(|variable| Form::Literal { variable, on })
 }
 
 /// The literal that a field writes: a variable's number, with a minus sign in front for off.
+#[tactic(auto, unfolding(crate::specs::Numerals::numeral))]
 pub(crate) fn read_literal(field: &[u8]) -> Option<Form>
     ensures { result ≡ literal field.now }
 {
-    if field.len() == 0 {
-        return None;
+    match field {
+        [b'-', digits @ ..] => literal(digits, false),
+        _ => literal(field, true),
     }
-    if field[0] == b'-' {
-        return literal_of(read_number(&field[1..]), false);
-    }
-    literal_of(read_number(field), true)
 }
 
+#[tactic(auto, using(crate::proofs::Cuts::some_field), unfolding(crate::specs::Format::entry_says))]
 fn literal_line(line: &[u8]) -> Result<NodeLine, Reason>
     ensures { Heard kind.Literal (fields line.now) result }
 {
     if field_count(line) != 2 {
         return Err(Reason::Line);
     }
-    match read_literal(field(line, 1)) {
-        Some(form) => Ok(NodeLine { form, from: 2 }),
-        None => Err(Reason::Number),
-    }
+    let form = read_literal(field(line, 1)).ok_or(Reason::Number)?;
+    Ok(NodeLine { form, from: 2 })
 }
 
+#[tactic(auto, using(crate::proofs::Cuts::some_field), unfolding(crate::specs::Format::entry_says))]
 fn and_line(line: &[u8]) -> Result<NodeLine, Reason>
     ensures { Heard kind.And (fields line.now) result }
 {
     if field_count(line) < 2 {
         return Err(Reason::Line);
     }
-    if !all_numbers(from_field(line, 1)) {
+    if !all_numbers(line, 1) {
         return Err(Reason::Number);
     }
     Ok(NodeLine {
@@ -112,6 +86,7 @@ fn and_line(line: &[u8]) -> Result<NodeLine, Reason>
     })
 }
 
+#[tactic(auto, using(crate::proofs::Cuts::some_field), unfolding(crate::specs::Format::entry_says))]
 fn fork_line(line: &[u8]) -> Result<NodeLine, Reason>
     ensures { Heard kind.Fork (fields line.now) result }
 {
@@ -119,7 +94,7 @@ fn fork_line(line: &[u8]) -> Result<NodeLine, Reason>
         return Err(Reason::Line);
     }
     let variable = number_field(line, 1)?;
-    if !all_numbers(from_field(line, 2)) {
+    if !all_numbers(line, 2) {
         return Err(Reason::Number);
     }
     Ok(NodeLine {
@@ -128,6 +103,7 @@ fn fork_line(line: &[u8]) -> Result<NodeLine, Reason>
     })
 }
 
+#[tactic(auto, using(crate::proofs::Cuts::some_field))]
 fn leaf_line(line: &[u8], form: Form) -> Result<NodeLine, Reason>
     ensures { Answers (no_field (drop 1 (fields line.now)) (Ok (entry_of form []))) (fields line.now) result }
 {
@@ -138,6 +114,7 @@ fn leaf_line(line: &[u8], form: Form) -> Result<NodeLine, Reason>
 }
 
 /// A node line of a kind.
+#[tactic(auto, unfolding(crate::specs::Format::entry_says))]
 pub(crate) fn node_line(line_kind: Kind, line: &[u8]) -> Result<NodeLine, Reason>
     ensures { Heard line_kind (fields line.now) result }
 {

@@ -4,16 +4,15 @@ ghost use Rattle.text.specs.Numerals.{digits_upto, numeral, number};
 
 /// The number that `field` writes in at most `most` digits, if it has the form and is at most
 /// `cap`. The form is that of a plain number: no sign, and no leading zero but in `0` itself.
+#[tactic(auto, unfolding(crate::specs::Numerals::numeral))]
 pub fn read_numeral(field: &[u8], most: usize, cap: u64) -> Option<u64>
     ensures { result ≡ numeral most cap field.now }
 {
-    if field.is_empty() || field.len() > most {
-        return None;
+    match field {
+        [] | [b'0', _, ..] => None,
+        _ if field.len() > most => None,
+        _ => read_digits(field, cap),
     }
-    if field[0] == b'0' && field.len() > 1 {
-        return None;
-    }
-    read_digits(field, cap)
 }
 
 /// The number that `field` writes, if it is a number of the table file: at most 65535.
@@ -28,6 +27,7 @@ pub fn read_number(field: &[u8]) -> Option<u16>
 fn read_digits(digits: &[u8], cap: u64) -> Option<u64>
     ensures { result ≡ digits_upto cap 0 digits.now }
 {
+    // A loop with `?`: what `try_fold` says of a closure that may fail is longer to use.
     let mut value = 0;
     for byte in digits {
         value = with_digit(value, *byte, cap)?;
@@ -42,6 +42,8 @@ fn with_digit(value: u64, byte: u8, cap: u64) -> Option<u64>
     if !byte.is_ascii_digit() {
         return None;
     }
-    let next = value.checked_mul(10)?.checked_add(u64::from(byte - b'0'))?;
-    if next <= cap { Some(next) } else { None }
+    value
+        .checked_mul(10)?
+        .checked_add(u64::from(byte - b'0'))
+        .filter(|next| *next <= cap)
 }

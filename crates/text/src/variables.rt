@@ -1,16 +1,8 @@
 //! Names, and the variables read so far.
 ghost use Rattle.std.specs.Prelude.{◌≡◌, ◌<◌, List, [], ◌∷◌, ◌++◌};
-ghost use Rattle.std.specs.Str.{bytes_eq};
 ghost use Rattle.text.specs.Format.{name_of, spelled, listed, is_named, options, blank, variables_of};
 
 use crate::record::{Name, Role, Variable, Variables};
-
-/// Whether two texts have the same bytes.
-pub fn same_bytes(a: &[u8], b: &[u8]) -> bool
-    ensures { result ≡ bytes_eq a.now b.now }
-{
-    a == b
-}
 
 impl Name {
     /// The name that a text of at most 24 bytes spells; what is longer is cut.
@@ -19,9 +11,7 @@ impl Name {
     {
         let length = text.len().min(24);
         let mut bytes = [0; 24];
-        for i in 0..length {
-            bytes[i] = text[i];
-        }
+        bytes[..length].copy_from_slice(&text[..length]);
         Name {
             bytes,
             length: length as u8,
@@ -62,28 +52,17 @@ impl Variables {
     pub(crate) fn is_named(&self, name: &[u8]) -> bool
         ensures { result ≡ is_named name.now (listed self.now) }
     {
-        let all = self.as_slice();
-        for v in all {
-            if same_bytes(v.name.as_bytes(), name) {
-                return true;
-            }
-        }
-        false
+        self.as_slice().iter().any(|v| v.name.as_bytes() == name)
     }
 
     /// How many of the variables are options.
     pub fn options(&self) -> usize
         ensures { result ≡ options (listed self.now) }
     {
-        let all = self.as_slice();
-        let mut count = 0;
-        for v in all {
-            match v.role {
-                Role::Option => count += 1,
-                Role::Chance => {}
-            }
-        }
-        count
+        self.as_slice()
+            .iter()
+            .filter(|v| v.role == Role::Option)
+            .count()
     }
 
     /// One variable more.

@@ -4,19 +4,19 @@ use crate::stores::{Shown, Stores};
 use std::alloc::Global;
 use std::process::Abort;
 use std::test::Fail;
-use text::record::{Role, Variables};
+use text::record::{Form, Role, Variables};
 
 // What a file says.
 #[derive(Clone, Copy)]
 struct Said {
-    variables: &'static [(&'static str, &'static str)],
+    variables: &'static [(Role, &'static str)],
     nodes: &'static [Shown],
     children: &'static [u16],
     weights: usize,
 }
 
 const PLANT: Said = Said {
-    variables: &[("option", "free cooling"), ("chance", "hot day")],
+    variables: &[(Role::Option, "free cooling"), (Role::Chance, "hot day")],
     nodes: &NODES,
     children: &CHILDREN,
     weights: TABLE_LENGTH,
@@ -37,20 +37,30 @@ A\t2\t1\t65535
 O\t65535\t65535\t0
 ";
 
+const OFF_0: Form = Form::Literal {
+    variable: 0,
+    on: false,
+};
+
+const ON_65535: Form = Form::Literal {
+    variable: 65535,
+    on: true,
+};
+
 const KINDS_SAID: Said = Said {
     variables: &[
-        ("chance", "a"),
-        ("option", " ~"),
-        ("chance", "abcdefghijklmnopqrstuvwx"),
+        (Role::Chance, "a"),
+        (Role::Option, " ~"),
+        (Role::Chance, "abcdefghijklmnopqrstuvwx"),
     ],
     nodes: &[
-        ("true", 0, 0, 0),
-        ("false", 0, 0, 0),
-        ("off", 0, 0, 0),
-        ("on", 65535, 0, 0),
-        ("and", 0, 0, 1),
-        ("and", 0, 1, 3),
-        ("fork", 65535, 4, 2),
+        (Form::True, 0, 0),
+        (Form::False, 0, 0),
+        (OFF_0, 0, 0),
+        (ON_65535, 0, 0),
+        (Form::And, 0, 1),
+        (Form::And, 1, 3),
+        (Form::Fork { variable: 65535 }, 4, 2),
     ],
     children: &[0, 2, 1, 65535, 65535, 0],
     weights: 105,
@@ -60,20 +70,16 @@ const KINDS_SAID: Said = Said {
 const LEAST: &str = "G\t1\t1\t0\nV\t1\tE\tx\nF\n\u{0}G\u{7f}";
 
 const LEAST_SAID: Said = Said {
-    variables: &[("option", "x")],
-    nodes: &[("false", 0, 0, 0)],
+    variables: &[(Role::Option, "x")],
+    nodes: &[(Form::False, 0, 0)],
     children: &[],
     weights: 18,
 };
 
-fn check_variables(rt: &impl Abort, variables: &Variables, due: &[(&str, &str)], case: &str) {
+fn check_variables(rt: &impl Abort, variables: &Variables, due: &[(Role, &str)], case: &str) {
     assert_eq!(rt; variables.as_slice().len(), due.len(), "{case}");
     for (variable, (role, name)) in variables.as_slice().iter().zip(due) {
-        let shown = match variable.role {
-            Role::Option => "option",
-            Role::Chance => "chance",
-        };
-        assert_eq!(rt; shown, *role, "{name}: {case}");
+        assert_eq!(rt; variable.role, *role, "{name}: {case}");
         assert_eq!(rt; variable.name.as_bytes(), name.as_bytes(), "{name}: {case}");
     }
 }

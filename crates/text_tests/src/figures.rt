@@ -7,13 +7,11 @@ use std::test::Fail;
 
 // Whether `text` is read as a figure, and the figure written as `text` again.
 fn comes_back<W: Written>(text: &str, heap: Global) -> Result<bool, AllocError> {
-    match W::read(text.as_bytes()) {
-        Some(figure) => {
-            let again = figure.write(heap)?;
-            Ok(again.as_str() == text)
-        }
-        None => Ok(false),
-    }
+    let Some(figure) = W::read(text.as_bytes()) else {
+        return Ok(false);
+    };
+    let again = figure.write(heap)?;
+    Ok(again.as_str() == text)
 }
 
 fn check_texts<W: Written>(

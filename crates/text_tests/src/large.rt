@@ -1,7 +1,8 @@
 //! Files at the limits.
-use crate::stores::{Refusal, Stores};
+use crate::stores::{NumberAndPlace, Stores};
 use std::alloc::{AllocError, Global};
 use std::test::Fail;
+use text::record::Form;
 
 // A file with the highest counts: 64 variables, of which the first `options` are options, 4095
 // true nodes, and an and of so many children.
@@ -38,7 +39,7 @@ type Counts = (usize, usize);
 
 // Options, the last variable's line, children, the lengths of the stores, the refusal, and how much
 // is written into the stores.
-const CASES: &[(usize, &str, usize, Counts, Option<Refusal>, Counts)] = &[
+const CASES: &[(usize, &str, usize, Counts, Option<NumberAndPlace>, Counts)] = &[
     (20, LAST, 12288, (4096, 12288), None, (4096, 12288)),
     (20, LAST, 12288, (4097, 12289), None, (4096, 12288)),
     (20, LAST, 12288, (4095, 12288), Some((5, 1)), (0, 0)),
@@ -56,8 +57,8 @@ const CASES: &[(usize, &str, usize, Counts, Option<Refusal>, Counts)] = &[
 
 #[test]
 fn at_the_limits(rt: HostRuntime) -> Result<(), Fail> {
-    let mut nodes = vec![in rt.alloc(); ("true", 0, 0, 0); 4095]?;
-    nodes.push(("and", 0, 0, 12288))?;
+    let mut nodes = vec![in rt.alloc(); (Form::True, 0, 0); 4095]?;
+    nodes.push((Form::And, 0, 12288))?;
     let children = vec![in rt.alloc(); 7; 12288]?;
     for (options, last, count, rooms, due, written) in CASES {
         let file = large(*options, *last, *count, rt.alloc())?;
@@ -76,19 +77,17 @@ fn at_the_limits(rt: HostRuntime) -> Result<(), Fail> {
 #[test]
 fn counts_at_the_limits(rt: HostRuntime) -> Result<(), Fail> {
     let file = large(20, LAST, 12288, rt.alloc())?;
-    match Stores::new(4096, 12288, rt.alloc())?.read(file.as_bytes()) {
-        Ok(contents) => {
-            assert_eq!(rt;
-                (
-                    contents.variables.as_slice().len(),
-                    contents.nodes,
-                    contents.children,
-                    contents.weights,
-                ),
-                (64, 4096, 12288, file.len())
-            );
-            Ok(())
-        },
-        Err(_) => Err(Fail::new("refused")),
-    }
+    let Ok(contents) = Stores::new(4096, 12288, rt.alloc())?.read(file.as_bytes()) else {
+        return Err(Fail::new("refused"));
+    };
+    assert_eq!(rt;
+        (
+            contents.variables.as_slice().len(),
+            contents.nodes,
+            contents.children,
+            contents.weights,
+        ),
+        (64, 4096, 12288, file.len())
+    );
+    Ok(())
 }

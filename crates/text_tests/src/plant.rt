@@ -1,9 +1,10 @@
 //! Plant K, sound and spoiled.
-use crate::stores::{Refusal, Shown, Stores};
+use crate::stores::{NumberAndPlace, Shown, Stores};
 use std::alloc::{AllocError, Global};
 use std::fmt::Display;
 use std::process::Abort;
 use std::test::Fail;
+use text::record::Form;
 
 /// Its first line.
 pub const HEADER: &str = "G\t2\t7\t6";
@@ -26,14 +27,34 @@ const LINES: &[&str] = &[
 /// The length of its table part, where the weight text begins.
 pub const TABLE_LENGTH: usize = 79;
 
+const OFF_1: Form = Form::Literal {
+    variable: 1,
+    on: false,
+};
+
+const OFF_2: Form = Form::Literal {
+    variable: 2,
+    on: false,
+};
+
+const ON_1: Form = Form::Literal {
+    variable: 1,
+    on: true,
+};
+
+const ON_2: Form = Form::Literal {
+    variable: 2,
+    on: true,
+};
+
 pub const NODES: [Shown; 7] = [
-    ("on", 2, 0, 0),
-    ("off", 1, 0, 0),
-    ("and", 0, 0, 2),
-    ("off", 2, 2, 0),
-    ("on", 1, 2, 0),
-    ("and", 0, 2, 2),
-    ("fork", 2, 4, 2),
+    (ON_2, 0, 0),
+    (OFF_1, 0, 0),
+    (Form::And, 0, 2),
+    (OFF_2, 2, 0),
+    (ON_1, 2, 0),
+    (Form::And, 2, 2),
+    (Form::Fork { variable: 2 }, 4, 2),
 ];
 
 pub const CHILDREN: [u16; 6] = [0, 1, 3, 4, 2, 5];
@@ -67,15 +88,11 @@ pub(crate) fn spoiled(
     heap: Global,
 ) -> Result<String, AllocError> {
     let mut file = String::new(heap);
-    let mut at = 0usize;
-    for old in LINES {
-        at = at.wrapping_add(1);
-        let new = if at == line {
-            text
-        } else if at == 1 {
-            header
-        } else {
-            *old
+    for (i, old) in LINES.iter().enumerate() {
+        let new = match i {
+            _ if i.saturating_add(1) == line => text,
+            0 => header,
+            _ => *old,
         };
         file.push_str(new)?;
         file.push_str("\n")?;
@@ -88,14 +105,11 @@ pub(crate) fn spoiled(
 pub(crate) fn check_read(
     rt: &impl Abort,
     file: &[u8],
-    due: Option<Refusal>,
+    due: Option<NumberAndPlace>,
     heap: Global,
     case: &impl Display,
 ) -> Result<(), Fail> {
-    let line = match due {
-        Some((_, place)) => place,
-        None => 11,
-    };
+    let line = due.map_or(11, |(_, place)| place);
     let (nodes, children) = *WRITTEN.get(line).ok_or("no such line")?;
     Stores::new(9, 8, heap)?.check_read(
         rt,

@@ -1,17 +1,17 @@
 //! The stores that a file is read into, and what the reader makes of it.
 use std::alloc::{AllocError, Global};
-use std::fmt::Display;
+use std::fmt::{Debug, Display};
 use std::process::Abort;
 use text::fault::{Fault, Layer};
 use text::reader::read_table;
 use text::record::{Contents, Form, Node};
+use text::refusal::Refusal;
 
-/// A node as text and numbers: what it is, its variable or 0, where its children begin, and
-/// how many they are.
-pub type Shown = (&'static str, u16, u16, u16);
+/// A node: what it is, where its children begin, and how many they are.
+pub type Shown = (Form, u16, u16);
 
 /// The number and the place of a refusal.
-pub type Refusal = (u8, usize);
+pub type NumberAndPlace = (u8, usize);
 
 const NODE_MARK: Node = Node {
     form: Form::False,
@@ -28,15 +28,30 @@ pub struct Stores {
     children: Vec<u16>,
 }
 
+// The first elements of a list, at most so many.
+fn front<T>(all: &[T], count: usize) -> &[T] {
+    &all[..count.min(all.len())]
+}
+
 fn shown(node: &Node) -> Shown {
-    let (form, variable) = match node.form {
-        Form::Literal { variable, on } => (if on { "on" } else { "off" }, variable),
-        Form::And => ("and", 0),
-        Form::Fork { variable } => ("fork", variable),
-        Form::True => ("true", 0),
-        Form::False => ("false", 0),
-    };
-    (form, variable, node.first, node.count)
+    (node.form, node.first, node.count)
+}
+
+// A store holds what was written, and behind it the mark.
+fn check_store<T, S: Copy + PartialEq + Debug, F: Fn(&T) -> S>(
+    rt: &impl Abort,
+    store: &[T],
+    shown: F,
+    written: &[S],
+    mark: &S,
+    case: &impl Display,
+)
+    requires { F.IsAlwaysCallable shown }
+{
+    for (i, entry) in store.iter().enumerate() {
+        let due = written.get(i).unwrap_or(mark);
+        assert_eq!(rt; shown(entry), *due, "place {i}: {case}");
+    }
 }
 
 impl Stores {
@@ -59,7 +74,12 @@ impl Stores {
     }
 
     /// The refusal that a file meets, if it meets one.
-    fn refusal(&mut self, rt: &impl Abort, file: &[u8], case: &impl Display) -> Option<Refusal> {
+    fn refusal(
+        &mut self,
+        rt: &impl Abort,
+        file: &[u8],
+        case: &impl Display,
+    ) -> Option<NumberAndPlace> {
         match self.read(file) {
             Ok(_) => None,
             Err(fault) => {
@@ -77,7 +97,7 @@ impl Stores {
         &mut self,
         rt: &impl Abort,
         file: &[u8],
-        due: Option<Refusal>,
+        due: Option<NumberAndPlace>,
         nodes: (&[Shown], usize),
         children: (&[u16], usize),
         case: &impl Display,
@@ -94,19 +114,17 @@ impl Stores {
         (children, child_count): (&[u16], usize),
         case: &impl Display,
     ) {
-        for (i, node) in self.nodes.iter().enumerate() {
-            let due = match nodes.get(i) {
-                Some(written) if i < node_count => *written,
-                _ => shown(&NODE_MARK),
-            };
-            assert_eq!(rt; shown(node), due, "node {i}: {case}");
-        }
-        for (i, child) in self.children.iter().enumerate() {
-            let due = match children.get(i) {
-                Some(written) if i < child_count => *written,
-                _ => CHILD_MARK,
-            };
-            assert_eq!(rt; *child, due, "child {i}: {case}");
-        }
+        let nodes = front(nodes, node_count);
+        let mark = shown(&NODE_MARK);
+        check_store(rt, self.nodes.as_slice(), shown, nodes, &mark, case);
+        let children = front(children, child_count);
+        check_store(
+            rt,
+            self.children.as_slice(),
+            |c| *c,
+            children,
+            &CHILD_MARK,
+            case,
+        );
     }
 }

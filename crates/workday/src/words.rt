@@ -10,6 +10,7 @@ use search::found::Found;
 use std::alloc::{AllocError, Global};
 use table::fault::{Fault as TableFault, Flaw};
 use text::fault::{Fault as TextFault, Reason};
+use text::refusal::Refusal;
 
 /// What the refusal of a line means.
 fn reason_meaning(reason: Reason) -> &'static str

@@ -1,10 +1,11 @@
-use Rattle.std.proofs.Common.{◌≡◌, ◌+◌, ◌++◌, drop, string_bytes}
+use Rattle.std.proofs.Common.{string_bytes}
+use Rattle.text.specs.Format.{listed}
+use Rattle.text.proofs.Printed.{Printing}
 use Rattle.table.specs.Whole.{circuit}
-use Rattle.quote.specs.Report.{text_of, root_set, mentioned_from, PlainNames}
+use Rattle.quote.specs.Report.{root_set}
+use Rattle.quote.proofs.Listing.{mentioned_text}
 use Rattle.quote.proofs.report.root_text.Given as goal
 
-abbrev pub invariant-loop-i : goal.invariant-loop-i
-invariant-loop-i l =
-    PlainNames l.variables
-    → string_bytes l.text ++ text_of (mentioned_from (root_set (circuit l.table)) (l.i + 1) (drop l.i l.variables))
-    ≡ text_of (mentioned_from (root_set (circuit l.table)) 1 l.variables)
+abbrev pub invariant-loop-number : goal.invariant-loop-number
+invariant-loop-number l =
+    Printing (mentioned_text (root_set (circuit l.table))) (listed l.table.variables) (string_bytes l.text) l.number-iterator.a.start l.number-iterator.b.rest.now

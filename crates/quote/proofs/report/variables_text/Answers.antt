@@ -1,28 +1,19 @@
-use Rattle.std.proofs.Common.{◌+◌, ◌++◌, string_bytes, sym, ap, ◌∙◌}
-use Rattle.std.proofs.lemmas.List.{at_drop_all, append-nil}
-use Rattle.quote.specs.Report.{text_of, described_from}
-use Rattle.text.proofs.Filled.{plain_at}
-use Rattle.quote.proofs.Listing.{variables_more}
+use Rattle.std.proofs.Common.{rules, refl, string_bytes, arith}
+use Rattle.text.specs.Format.{listed}
+use Rattle.text.proofs.Filled.{variables_few}
+use Rattle.text.proofs.Printed.{begun, further, ended}
+use Rattle.quote.proofs.Listing.{described_text, described_more}
 use Rattle.quote.proofs.report.variables_text.Goals as goal
 
-pub loop-i-init : goal.loop-i-init
-loop-i-init c = λ plain. ap (λ t. t ++ text_of (described_from 1 c.args.variables.now)) c.new-text.ensures.bytes
+pub loop-number-init : goal.loop-number-init
+loop-number-init c = begun described_text _ _ _ _ c.new-text.ensures.bytes (search rules) (search rules)
 
-pub loop-i-preserved : goal.loop-i-preserved
-loop-i-preserved c = λ plain.
-    let vs = c.args.variables.now in
-    let i = c.loop-i.i in
-    let v = c.index-variables-i.result in
-    let is = c.index-variables-i.is in
-    let lt = c.loop-i-test.true in
-    let line = c.in_ok-line.ensures (plain_at vs i v lt is plain) in
-    variables_more vs i v (string_bytes c.loop-i.text) c.as_str.result.now (string_bytes c.push_str.new.self)
-    lt is c.in_ok-push_str.ensures.bytes (c.as_str.ensures.value ∙ line) (c.loop-i.invariant plain)
+pub loop-number-preserved : goal.loop-number-preserved
+loop-number-preserved c =
+    let s = c.in-Some.ensures.steps in
+    further described_text _ _ (string_bytes c.write_variable.new.text) _ _ _ _ _ _ s.0 s.1 c.loop-number.invariant
+    (λ ascii. described_more _ _ _ c.in-Some.variable.now _ (c.in_ok-write_variable.ensures ascii))
 
 pub returns : goal.returns
-returns c = λ plain.
-    let vs = c.args.variables.now in
-    let i = c.loop-i.i in
-    sym (append-nil (string_bytes c.loop-i.text))
-    ∙ ap (λ t. string_bytes c.loop-i.text ++ t) (sym (at_drop_all (λ ys. text_of (described_from (i + 1) ys)) vs i c.loop-i-test.false))
-    ∙ c.loop-i.invariant plain
+returns c =
+    ended described_text (listed c.args.variables.now) _ _ _ _ (variables_few c.args.variables.now) (omega arith) (λ n. refl) c.loop-number.invariant c.in-None.ensures.steps

@@ -1,8 +1,8 @@
-use Rattle.std.proofs.Common.{◌≡◌, ◌+◌, ◌++◌, drop, string_bytes}
-use Rattle.quote.specs.Report.{text_of, described_from, PlainNames}
+use Rattle.std.proofs.Common.{string_bytes}
+use Rattle.text.specs.Format.{listed}
+use Rattle.text.proofs.Printed.{Printing}
+use Rattle.quote.proofs.Listing.{described_text}
 use Rattle.quote.proofs.report.variables_text.Given as goal
 
-abbrev pub invariant-loop-i : goal.invariant-loop-i
-invariant-loop-i l =
-    PlainNames l.variables
-    → string_bytes l.text ++ text_of (described_from (l.i + 1) (drop l.i l.variables)) ≡ text_of (described_from 1 l.variables)
+abbrev pub invariant-loop-number : goal.invariant-loop-number
+invariant-loop-number l = Printing described_text (listed l.variables) (string_bytes l.text) l.number-iterator.a.start l.number-iterator.b.rest.now

@@ -1,25 +1,19 @@
-use Rattle.std.proofs.Common.{refl, rules}
-use Rattle.table.specs.Whole.{circuit, roles}
 use Rattle.table.proofs.Asked.{proved_sound}
 use Rattle.search.proofs.Best.{selects}
 use Rattle.search.proofs.asking.select.Goals as goal
 
-pub returns-in-Some : goal.returns-in-Some
-returns-in-Some g c =
-    let t = c.args.table.now in
-    record {
-      answer = search rules;
-      best = selects g.K.Figure.ring g.K.Figure.laws (g.O.BranchingOrder.picks c.args.order.now) (g.met.O.BranchingOrder.names c.args.order.now) (roles t) (circuit t) c.args.sheet.now.figures.now (proved_sound t) c.args.holds.now.entries;
-      behind = refl;
-      refused = λ _. refl;
-    }
+pub returns-in_err-require_sheet-clause-best : goal.returns-in_err-require_sheet-clause-best
+returns-in_err-require_sheet-clause-best g c =
+    selects g.K.Figure.ring g.K.Figure.laws (g.O.BranchingOrder.picks c.args.order.now) (g.met.O.BranchingOrder.names c.args.order.now) _ _ c.args.sheet.now.figures.now (proved_sound c.args.table.now) c.args.holds.now.entries
 
-pub returns-in-None : goal.returns-in-None
-returns-in-None g c =
-    let t = c.args.table.now in
-    record {
-      answer = search rules;
-      best = selects g.K.Figure.ring g.K.Figure.laws (g.O.BranchingOrder.picks c.args.order.now) (g.met.O.BranchingOrder.names c.args.order.now) (roles t) (circuit t) c.args.sheet.now.figures.now (proved_sound t) c.args.holds.now.entries;
-      behind = c.explore.ensures.work;
-      refused = search rules;
-    }
+pub returns-in_err-require_no_stray-clause-best : goal.returns-in_err-require_no_stray-clause-best
+returns-in_err-require_no_stray-clause-best g c =
+    selects g.K.Figure.ring g.K.Figure.laws (g.O.BranchingOrder.picks c.args.order.now) (g.met.O.BranchingOrder.names c.args.order.now) _ _ c.args.sheet.now.figures.now (proved_sound c.args.table.now) c.args.holds.now.entries
+
+pub returns-in_err-require_work-clause-best : goal.returns-in_err-require_work-clause-best
+returns-in_err-require_work-clause-best g c =
+    selects g.K.Figure.ring g.K.Figure.laws (g.O.BranchingOrder.picks c.args.order.now) (g.met.O.BranchingOrder.names c.args.order.now) _ _ c.args.sheet.now.figures.now (proved_sound c.args.table.now) c.args.holds.now.entries
+
+pub returns-clause-best : goal.returns-clause-best
+returns-clause-best g c =
+    selects g.K.Figure.ring g.K.Figure.laws (g.O.BranchingOrder.picks c.args.order.now) (g.met.O.BranchingOrder.names c.args.order.now) _ _ c.args.sheet.now.figures.now (proved_sound c.args.table.now) c.args.holds.now.entries

@@ -1,37 +1,21 @@
-use Rattle.std.proofs.Common.{◌+◌, ◌<◌, ◌≤◌, true, length, sym, ap, ◌∙◌, arith}
-use Rattle.std.proofs.lemmas.List.{at_drop_all}
-use Rattle.table.specs.Circuit.{some}
-use Rattle.table.specs.Sound.{from}
+use Rattle.std.proofs.Common.{ℕ, Bool, ◌&&◌, length, sym, refl, ap, ◌∙◌, arith, rules}
+use Rattle.std.proofs.lemmas.Iterator.{YieldsList-from_range}
+use Rattle.std.proofs.lemmas.Iterator.Search.{any_from_yields_List}
+use Rattle.std.specs.List.{list_any, range_with_len}
+use Rattle.table.specs.Sound.{is_option}
 use Rattle.table.specs.Whole.{roles}
-use Rattle.table.proofs.Asked.{variables_long, variables_few}
-use Rattle.search.proofs.Testing.{option_found, option_later}
-use Rattle.search.proofs.tests.has_free.Invariants.{free_in}
+use Rattle.table.proofs.Asked.{variables_long}
+use Rattle.passes.specs.Holding.{is_free}
+use Rattle.passes.specs.Marks.{entry_at}
+use Rattle.search.proofs.Testing.{any_free}
 use Rattle.search.proofs.tests.has_free.Goals as goal
-
-pub overflow_cast-place : goal.overflow_cast-place
-overflow_cast-place c =
-    let t = c.args.table.now in
-    omega (arith, ap length c.as_slice-place-end.ensures, variables_long t, variables_few t)
-
-pub overflow_add-place : goal.overflow_add-place
-overflow_add-place c =
-    let t = c.args.table.now in
-    omega (arith, ap length c.as_slice-place-end.ensures, variables_long t, variables_few t)
-
-pub returns-then-is_free_option : goal.returns-then-is_free_option
-returns-then-is_free_option c =
-    let t = c.args.table.now in
-    let short : c.loop-place.place < length (roles t) = omega (arith, ap length c.as_slice-place-end.ensures, variables_long t) in
-    sym (option_found (free_in c.args.holds.now.entries) (roles t) c.loop-place.place short (sym c.if-is_free_option.ensures)) ∙ c.loop-place.invariant
-
-pub loop-place-preserved : goal.loop-place-preserved
-loop-place-preserved c =
-    let t = c.args.table.now in
-    let short : c.loop-place.place < length (roles t) = omega (arith, ap length c.as_slice-place-end.ensures, variables_long t) in
-    sym (option_later (free_in c.args.holds.now.entries) (roles t) c.loop-place.place short (sym c.if-is_free_option.ensures)) ∙ c.loop-place.invariant
+use borrow.Author.Tests.{tests}
 
 pub returns : goal.returns
 returns c =
     let t = c.args.table.now in
-    let past : length (roles t) ≤ c.loop-place.place = omega (arith, ap length c.as_slice-place-end.ensures, variables_long t) in
-    sym (at_drop_all (λ rs. some (free_in c.args.holds.now.entries) (from (c.loop-place.place + 1) true rs)) (roles t) c.loop-place.place past) ∙ c.loop-place.invariant
+    let n : ℕ = length c.as_slice.result.now in
+    let test : ℕ → Bool = λ v. is_option (roles t) v && is_free (entry_at c.args.holds.now.entries v) in
+    any_from_yields_List test _ _ c.any.result c.any.ensures.ran (YieldsList-from_range 1 _ n refl (omega arith)) (λ x b q k. search (rules, tests))
+    ∙ ap (λ k. list_any test (range_with_len 1 k)) (ap length c.as_slice.ensures ∙ sym (variables_long t))
+    ∙ any_free (roles t) c.args.holds.now.entries

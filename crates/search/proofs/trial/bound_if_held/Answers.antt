@@ -1,13 +1,10 @@
 use Rattle.std.proofs.Common.{◌≡◌, ℕ, ◌-◌, ◌<◌, get_or, set, ap, ◌∙◌, arith}
 use Rattle.std.proofs.lemmas.List.{set-set, set-get_or}
 use Rattle.std.proofs.lemmas.Bool.{cond-false, ne_eqb}
-use Rattle.table.specs.Whole.{circuit, roles}
 use Rattle.passes.specs.Holding.{Entries}
 use Rattle.passes.specs.Marks.{with_entry, held}
-use Rattle.passes.specs.Passes.{bound}
 use Rattle.passes.specs.declared.holds.Entry.{Entry}
 use Rattle.passes.specs.declared.holds.Entry.TheVariants.{Free}
-use Rattle.search.proofs.Leaning.{parts_kept}
 use Rattle.search.proofs.trial.bound_if_held.Goals as goal
 
 -- an entry that was changed is put back
@@ -20,11 +17,5 @@ put_back h tried final v e low t f =
     none : v ≡ 0 → 0 < v → ⊥
     none z q = omega arith
 
-pub returns : goal.returns
-returns g c =
-    let t = c.args.table.now in
-    record {
-      value = c.pair_bound.ensures.answer ∙ ap (λ e. bound g.K.Figure.ring (roles t) c.args.sheet.now (circuit t) e) c.hold.ensures;
-      same = put_back c.args.holds.now.entries c.hold.new.self.entries _ c.args.variable (held c.args.on) c.requires.known.0 c.hold.ensures c.drop-trial.ensures;
-      behind = parts_kept g.K.Figure.ring (roles t) (circuit t) c.args.sheet.now c.hold.new.self.entries c.pair_bound.new.work c.args.work.now c.pair_bound.ensures.work;
-    }
+pub returns-clause-same : goal.returns-clause-same
+returns-clause-same g c = put_back c.args.holds.now.entries c.hold.new.self.entries _ c.args.variable (held c.args.on) c.requires.known.0 c.hold.ensures c.drop-trial.ensures

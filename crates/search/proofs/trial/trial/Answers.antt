@@ -1,40 +1,34 @@
-use Rattle.std.proofs.Common.{[], ◌∷◌, sym, refl, ap, ◌∙◌, arith, rules}
-use Rattle.std.proofs.lemmas.Bool.{not-false, ltb-false}
+use Rattle.std.proofs.Common.{arith}
+use Rattle.std.proofs.lemmas.Bool.{not-false}
 use Rattle.table.specs.Whole.{roles}
-use Rattle.table.proofs.Asked.{variables_few}
+use Rattle.table.proofs.Asked.{proved_sound, variables_few}
 use Rattle.table.proofs.Numbers.{option_known}
+use Rattle.search.specs.Study.{no_option}
 use Rattle.search.proofs.Bounds.{bounded}
-use Rattle.search.proofs.Testing.{none_fits}
+use Rattle.search.proofs.Testing.{passes}
 use Rattle.search.proofs.trial.trial.Goals as goal
 
-pub bound_if_held-requires : goal.bound_if_held-requires
-bound_if_held-requires g c =
+pub returns-in_err-require_sheet-clause-bounded : goal.returns-in_err-require_sheet-clause-bounded
+returns-in_err-require_sheet-clause-bounded g c = bounded g.K.Figure.ring g.K.Figure.laws _ _ (proved_sound c.args.table.now) _ c.args.sheet.now.figures.now
+
+pub returns-in_err-require_no_stray-clause-bounded : goal.returns-in_err-require_no_stray-clause-bounded
+returns-in_err-require_no_stray-clause-bounded g c = bounded g.K.Figure.ring g.K.Figure.laws _ _ (proved_sound c.args.table.now) _ c.args.sheet.now.figures.now
+
+pub returns-in_err-require_option-clause-bounded : goal.returns-in_err-require_option-clause-bounded
+returns-in_err-require_option-clause-bounded g c = bounded g.K.Figure.ring g.K.Figure.laws _ _ (proved_sound c.args.table.now) _ c.args.sheet.now.figures.now
+
+pub returns-in_err-require_free-clause-bounded : goal.returns-in_err-require_free-clause-bounded
+returns-in_err-require_free-clause-bounded g c = bounded g.K.Figure.ring g.K.Figure.laws _ _ (proved_sound c.args.table.now) _ c.args.sheet.now.figures.now
+
+pub returns-in_err-require_work-clause-bounded : goal.returns-in_err-require_work-clause-bounded
+returns-in_err-require_work-clause-bounded g c = bounded g.K.Figure.ring g.K.Figure.laws _ _ (proved_sound c.args.table.now) _ c.args.sheet.now.figures.now
+
+pub returns-clause-bounded : goal.returns-clause-bounded
+returns-clause-bounded g c = bounded g.K.Figure.ring g.K.Figure.laws _ _ (proved_sound c.args.table.now) _ c.args.sheet.now.figures.now
+
+pub bound_if_held-requires-clause-known : goal.bound_if_held-requires-clause-known
+bound_if_held-requires-clause-known g c =
     let t = c.args.table.now in
-    let last = c.short_pairs.result ∷ [] in
-    let fits = none_fits c.short_sheet.result (c.stray_hold.result ∷ c.no_option.result ∷ c.held_already.result ∷ last) (sym c.first_fit.ensures ∙ c.in-None.is) in
-    let option = none_fits c.no_option.result (c.held_already.result ∷ last) (none_fits c.stray_hold.result (c.no_option.result ∷ c.held_already.result ∷ last) fits.1).1 in
-    let room = none_fits c.short_pairs.result [] (none_fits c.held_already.result last option.1).1 in
-    let known = option_known (roles t) c.args.variable (not-false _ (ap (λ p. p.0) (sym c.no_option.ensures) ∙ option.0)) in
-    record {
-      known = (known.0, omega (arith, known, variables_few t));
-      room = ltb-false _ _ (ap (λ p. p.0) (sym c.short_pairs.ensures) ∙ room.0);
-      sheet = ltb-false _ _ (ap (λ p. p.0) (sym c.short_sheet.ensures) ∙ fits.0);
-    }
-
-pub returns-in-Some : goal.returns-in-Some
-returns-in-Some g c = record {
-  answer = search rules;
-  bounded = bounded g.K.Figure.ring g.K.Figure.laws c.args.table.now _ c.args.sheet.now.figures.now;
-  holds = refl;
-  behind = refl;
-  refused = λ _. refl;
-}
-
-pub returns-in-None : goal.returns-in-None
-returns-in-None g c = record {
-  answer = search rules;
-  bounded = bounded g.K.Figure.ring g.K.Figure.laws c.args.table.now _ c.args.sheet.now.figures.now;
-  holds = c.bound_if_held.ensures.same;
-  behind = c.bound_if_held.ensures.behind;
-  refused = search rules;
-}
+    let v = c.args.variable in
+    let known = option_known (roles t) v (not-false _ (passes (no_option (roles t) v) c.require_option.result c.require_option.ensures c.in_ok-require_option.was)) in
+    (known.0, omega (arith, known, variables_few t))

@@ -1,18 +1,10 @@
-use Rattle.std.proofs.Common.{length, ap, arith}
-use Rattle.text.specs.Lines.{fields}
-use Rattle.std.proofs.lemmas.List.{at_drop_all}
-use Rattle.text.proofs.Cuts.{count_tab, count_other}
+use Rattle.std.proofs.Common.{eqb, rules}
+use Rattle.std.proofs.lemmas.Iterator.Consumers.{count_from_yields_List}
+use Rattle.std.proofs.lemmas.Iterator.Splits.{YieldsList-from_slice_split}
+use borrow.Author.Tests.{tests}
 use Rattle.text.proofs.fields.field_count.Goals as goal
-use Rattle.text.proofs.fields.field_count.Goals.{then-b-eq-TAB, else-b-eq-TAB}
-
-pub loop-b-preserved : goal.loop-b-preserved
-loop-b-preserved c =
-    let xs = c.args.line.now in
-    let i = c.loop-b.b-index in
-    elim c.if-b-eq-TAB.branch [
-      | then-b-eq-TAB w ↦ (omega (arith, w.count-is, c.loop-b.invariant.0, count_tab xs i c.loop-b-test.true w.if-b-eq-TAB.true), omega (arith, w.count-is, c.loop-b.invariant.1))
-      | else-b-eq-TAB w ↦ (omega (arith, w.count-is, c.loop-b.invariant.0, count_other xs i c.loop-b-test.true w.if-b-eq-TAB.false), omega (arith, w.count-is, c.loop-b.invariant.1))
-    ]
 
 pub returns : goal.returns
-returns c = omega (arith, c.loop-b.invariant.0, ap length (at_drop_all fields c.args.line.now c.loop-b.b-index c.loop-b-test.false))
+returns c =
+    count_from_yields_List c.split.result _ c.count.ensures.ran
+    (YieldsList-from_slice_split _ (λ b. eqb b 9) c.args.line.now c.split.ensures.rest c.split.ensures.done c.split.ensures.closure (λ x b q k. search (rules, tests)))

@@ -1,18 +1,12 @@
-use Rattle.std.proofs.Common.{arith}
-use Rattle.text.proofs.Cuts.{index_here, index_next, index_none}
+use Rattle.std.proofs.Common.{◌≡◌, sym, ◌∙◌, rules}
+use Rattle.std.proofs.lemmas.Iterator.{YieldsList-from_slice, IsFirst-from_position}
+use borrow.Author.Tests.{tests}
+use Rattle.text.proofs.Cuts.{index_at}
 use Rattle.text.proofs.fields.find.Goals as goal
 
-pub returns-then-b-byte : goal.returns-then-b-byte
-returns-then-b-byte c = record {
-  value = omega (arith, c.loop-i.invariant, index_here c.args.byte c.args.text.now c.loop-i.i c.loop-i-test.true c.if-b-byte.true);
-  within = omega arith;
-}
-
-pub loop-i-preserved : goal.loop-i-preserved
-loop-i-preserved c = omega (arith, c.loop-i.invariant, index_next c.args.byte c.args.text.now c.loop-i.i c.loop-i-test.true c.if-b-byte.false)
-
-pub returns : goal.returns
-returns c = record {
-  value = omega (arith, c.loop-i.invariant, index_none c.args.byte c.args.text.now c.loop-i.i c.loop-i-test.false);
-  within = omega arith;
-}
+pub returns-clause-value : goal.returns-clause-value
+returns-clause-value c =
+    let b = c.args.byte in
+    c.unwrap_or.ensures
+    ∙ sym (index_at b c.args.text.now c.position.result
+    (IsFirst-from_position _ _ c.position.result (λ x. x ≡ b) (λ x. x ≡ b → ⊥) c.position.ensures.ran (YieldsList-from_slice c.args.text.now cc) (λ x q k. search (rules, tests)) (λ x q k. search (rules, tests))))

@@ -2,5 +2,5 @@ use Rattle.std.proofs.Common.{sym, ◌∙◌, ap₂}
 use Rattle.kinds.specs.Peaks.{same_peak, peak_product}
 use Rattle.kinds.proofs.peak.PeakFigure.times.Goals as goal
 
-pub returns-in-Load-other : goal.returns-in-Load-other
-returns-in-Load-other c = same_peak _ _ c.saturating_add.ensures ∙ sym (ap₂ peak_product c.in-Load.is c.in-Load-other.is)
+pub returns-in-Load-Load : goal.returns-in-Load-Load
+returns-in-Load-Load c = same_peak _ _ c.saturating_add.ensures ∙ sym (ap₂ peak_product c.in-Load-Load.is-0 c.in-Load-Load.is-1)

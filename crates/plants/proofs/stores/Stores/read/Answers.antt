@@ -1,24 +1,27 @@
-use Rattle.std.proofs.Common.{length, drop, refl, ◌∙◌}
-use Rattle.std.proofs.lemmas.Result.{IfOk-from_err}
+use Rattle.std.proofs.Common.{◌≡◌, length, drop, Ok, sym, refl, ◌∙◌}
 use Rattle.text.proofs.Filled.{kept}
+use Rattle.text.proofs.Limits.{before_ok}
 use Rattle.plants.proofs.Parting.{parts_are}
 use Rattle.plants.proofs.stores.Stores.read.Goals as goal
+use Rattle.plants.proofs.stores.Stores.read.Goals.{In_ok-contents}
 
-pub returns-in_err-children : goal.returns-in_err-children
-returns-in_err-children c =
-    let failed = c.from_residual-in_err-children.ensures.0 in
-    record { parts = IfOk-from_err _ _ failed; names = IfOk-from_err _ _ failed }
+accepted : (c : In_ok-contents) → c.read_table.result ≡ Ok c.in_ok-contents.contents
+accepted c = before_ok c.read_table.result c.map_err.result _ c.map_err.ensures.cases c.in_ok-contents.contents c.in_ok-contents.was
 
-pub returns-in-Ok-clause-parts : goal.returns-in-Ok-clause-parts
-returns-in-Ok-clause-parts c =
+pub returns-clause-parts : goal.returns-clause-parts
+returns-clause-parts c =
     let last-nodes = c.read_table.new.nodes in
     let last-children = c.read_table.new.children in
     let store-nodes = c.in_ok-nodes.nodes in
     let store-children = c.in_ok-children.children in
+    let told = c.read_table.ensures in
     parts_are c.args.file.now c.as_bytes.result.now c.as_bytes.ensures.value c.as_mut_slice.result.now c.as_mut_slice-2.result.now
     (c.as_mut_slice.ensures.value ∙ c.in_ok-nodes.ensures.items_if_clones_equal (λ y e. e))
     (c.as_mut_slice-2.ensures.value ∙ c.in_ok-children.ensures.items_if_clones_equal (λ y e. e))
-    c.in-Ok.contents _ _ _ _ c.in-Ok.ensures.answer
-    (kept _ last-nodes (drop (length last-nodes) store-nodes.items) store-nodes.len (length c.as_mut_slice.result.now) refl c.read_table.auto.nodes c.as_mut_slice.ensures.len ∙ c.in-Ok.ensures.nodes)
-    (kept _ last-children (drop (length last-children) store-children.items) store-children.len (length c.as_mut_slice-2.result.now) refl c.read_table.auto.children c.as_mut_slice-2.ensures.len ∙ c.in-Ok.ensures.children)
-    c.truncate.ensures.items c.truncate-in-Ok.ensures.items
+    c.in_ok-contents.contents _ _ _ _ (sym (accepted (goal.at.returns-clause-parts c).In_ok-contents) ∙ told.answer)
+    (kept _ last-nodes (drop (length last-nodes) store-nodes.items) store-nodes.len (length c.as_mut_slice.result.now) refl c.read_table.auto.nodes c.as_mut_slice.ensures.len ∙ told.nodes)
+    (kept _ last-children (drop (length last-children) store-children.items) store-children.len (length c.as_mut_slice-2.result.now) refl c.read_table.auto.children c.as_mut_slice-2.ensures.len ∙ told.children)
+    c.truncate.ensures.items c.truncate-2.ensures.items
+
+pub returns-clause-names : goal.returns-clause-names
+returns-clause-names c = rw (accepted (goal.at.returns-clause-names c).In_ok-contents) at c.read_table.ensures.names

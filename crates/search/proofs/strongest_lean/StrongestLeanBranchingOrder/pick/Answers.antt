@@ -1,5 +1,5 @@
-use Rattle.std.proofs.Common.{◌∙◌}
-use Rattle.search.proofs.Leading.{lowest_told, here_placed, leading_more, leading_over}
+use Rattle.std.proofs.Common.{refl, ap, ◌∙◌}
+use Rattle.search.proofs.Leading.{lowest_told, here_placed, leading_more, leading_over, found_or}
 use Rattle.search.proofs.strongest_lean.StrongestLeanBranchingOrder.pick.Goals as goal
 
 pub leading-best-requires : goal.leading-best-requires
@@ -13,11 +13,11 @@ loop-c-preserved g c =
     leading_more g.K.Figure.ring c.args.part.now c.args.free.now c.loop-c.best c.loop-c.c-index _ c.leading-best.result
     c.loop-c-test.true c.leading-best.ensures c.loop-c.invariant
 
-pub returns-in-Some : goal.returns-in-Some
-returns-in-Some g c =
-    leading_over g.K.Figure.ring c.args.part.now c.args.free.now c.loop-c.best _ c.loop-c.c-index c.loop-c-test.false c.in-Some.is c.loop-c.invariant
-
-pub returns-in-None : goal.returns-in-None
-returns-in-None g c =
-    lowest_told g.K.Figure.ring c.args.part.now c.args.free.now c.requires.some _
-    ∙ leading_over g.K.Figure.ring c.args.part.now c.args.free.now c.loop-c.best _ c.loop-c.c-index c.loop-c-test.false c.in-None.is c.loop-c.invariant
+pub returns : goal.returns
+returns g c =
+    let R = g.K.Figure.ring in
+    let part = c.args.part.now in
+    let free = c.args.free.now in
+    ap (λ x. x.option) c.unwrap_or.ensures
+    ∙ found_or R part _ c.loop-c.best _ (lowest_told R part free c.requires.some _)
+    ∙ leading_over R part free c.loop-c.best _ c.loop-c.c-index c.loop-c-test.false refl c.loop-c.invariant

@@ -1,22 +1,20 @@
-use Rattle.std.proofs.Common.{not, eqb, get_or, sym, ap, ◌∙◌, arith}
+use Rattle.std.proofs.Common.{not, eqb, get_or, sym, ap, ◌∙◌}
 use lib.Bits.{bit_and}
-use Rattle.table.specs.Whole.{roles}
-use Rattle.table.proofs.Decided.{decides_known}
-use Rattle.table.proofs.Asked.{past_nodes, unknown_variable, variables_few, bit_says}
+use Rattle.std.proofs.lemmas.Bool.{both_ways, le-ltb}
+use Rattle.table.proofs.Asked.{past_nodes, unknown_variable, bit_says}
 use Rattle.table.proofs.table.Table.does_mention.Goals as goal
+use Rattle.table.proofs.table.Table.does_mention.Goals.{then-node-self, else-node-self}
 
-pub returns-then-node-self : goal.returns-then-node-self
-returns-then-node-self c = sym (past_nodes c.args.self.now c.args.node c.args.variable c.if-node-self.true)
+pub returns-then-has_variable : goal.returns-then-has_variable
+returns-then-has_variable c = elim c.if-node-self.branch [
+  | then-node-self w ↦ (let known = sym w.has_variable.ensures ∙ sym w.value-is ∙ c.if-has_variable.true in
+      ap (λ b. not (eqb (bit_and (get_or c.args.self.now.mentions.sets c.args.node 0) b) 0)) c.bit_of.ensures
+      ∙ bit_says c.args.self.now c.args.node c.args.variable w.if-node-self.true known)
+  | else-node-self w ↦ absurd (both_ways _ (le-ltb _ _ w.if-node-self.false) (sym w.value-is ∙ c.if-has_variable.true))
+]
 
-pub returns-then-not-has_variable : goal.returns-then-not-has_variable
-returns-then-not-has_variable c = sym (unknown_variable c.args.self.now c.args.node c.args.variable (sym c.if-not-has_variable.ensures))
-
-pub bit_of-requires : goal.bit_of-requires
-bit_of-requires c =
-    let inside = (decides_known (roles c.args.self.now) c.args.variable).0 (sym c.if-not-has_variable.ensures) in
-    (omega (arith, inside.0), omega (arith, inside.1, variables_few c.args.self.now))
-
-pub returns : goal.returns
-returns c =
-    ap (λ b. not (eqb (bit_and (get_or c.args.self.now.mentions.sets c.args.node 0) b) 0)) c.bit_of.ensures
-    ∙ bit_says c.args.self.now c.args.node c.args.variable c.if-node-self.false (sym c.if-not-has_variable.ensures)
+pub returns-else-has_variable : goal.returns-else-has_variable
+returns-else-has_variable c = elim c.if-node-self.branch [
+  | then-node-self w ↦ c.if-has_variable.false ∙ sym (unknown_variable c.args.self.now c.args.node c.args.variable (sym w.has_variable.ensures ∙ sym w.value-is ∙ c.if-has_variable.false))
+  | else-node-self w ↦ c.if-has_variable.false ∙ sym (past_nodes c.args.self.now c.args.node c.args.variable w.if-node-self.false)
+]

@@ -1,15 +1,10 @@
-use Rattle.std.proofs.Common.{◌≡◌, min, ◌++◌, length, get_or, take, drop, set, replicate, ap, ◌∙◌, arith}
-use Rattle.text.proofs.Names.{same_name, copied_more, written}
+use Rattle.std.proofs.Common.{◌≡◌, min, ◌++◌, length, take, drop, replicate, ap, ◌∙◌}
+use Rattle.text.proofs.Names.{same_name, written}
 use Rattle.text.proofs.record.Name.new.Goals as goal
-
-pub loop-i-preserved : goal.loop-i-preserved
-loop-i-preserved c =
-    let text = c.args.text.now in
-    let i = c.loop-i.i in
-    ap (λ b. set b i (get_or text i 0)) c.loop-i.invariant ∙ copied_more (replicate 24 0) text i 0 (omega arith) (omega arith)
 
 pub returns : goal.returns
 returns c =
     let text = c.args.text.now in
-    let e : c.loop-i.i ≡ min (length text) 24 = omega arith in
-    same_name _ _ (c.loop-i.invariant ∙ ap (λ k. take k text ++ drop k (replicate 24 0)) e ∙ written 24 0 text) (omega arith)
+    let short : c.min-length.result ≡ min (length text) 24 = c.min-length.ensures in
+    let copied : c.copy_from_slice.new.self ≡ take c.min-length.result text = c.copy_from_slice.ensures.after in
+    same_name _ _ (ap (λ xs. xs ++ drop c.min-length.result (replicate 24 0)) copied ∙ ap (λ k. take k text ++ drop k (replicate 24 0)) short ∙ written 24 0 text) short

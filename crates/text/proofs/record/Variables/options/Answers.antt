@@ -1,22 +1,25 @@
-use Rattle.std.proofs.Common.{◌≡◌, ◌+◌, drop, sym, ap, ◌∙◌, arith}
-use Rattle.std.proofs.lemmas.List.{at_drop_more, at_drop_all}
+use Rattle.std.proofs.Common.{◌≡◌, ℕ, ◌+◌, Bool, cond, eqb, sym, ap, ◌∙◌, rules, refl, arith}
+use Rattle.std.proofs.lemmas.Iterator.{YieldsList-from_slice}
+use Rattle.std.proofs.lemmas.Iterator.Consumers.{count_from_yields_List, YieldsList-from_filter, YieldsList-at}
+use Rattle.std.proofs.lemmas.List.Sums.{length-filter}
+use Rattle.std.proofs.lemmas.List.Recursion.{is_count_by}
+use borrow.Author.Tests.{tests}
+use Rattle.text.specs.declared.record.Variable.{Variable}
+use Rattle.text.specs.declared.record.Role.{Role}
+use Rattle.text.specs.declared.record.Role.TheVariants as role
 use Rattle.text.specs.Format.{options, one_if_option}
 use Rattle.text.proofs.record.Variables.options.Goals as goal
-use Rattle.text.proofs.record.Variables.options.Goals.{in-Option, in-Chance}
 
-pub loop-v-preserved : goal.loop-v-preserved
-loop-v-preserved c =
-    let all = c.as_slice-all.result.now in
-    let i = c.loop-v.v-index in
-    let v = c.v-item.result in
-    let e : options (drop i all) ≡ one_if_option v.role + options (drop (i + 1) all) =
-    at_drop_more options all i v c.loop-v-test.true
-    ∙ sym (ap (λ y. one_if_option y.role + options (drop (i + 1) all)) c.v-item.is) in
-    elim c.match-v.branch [
-      | in-Option w ↦ (let o = ap one_if_option w.in-Option.is in (omega (arith, w.count-is), omega (arith, w.count-is)))
-      | in-Chance w ↦ (let o = ap one_if_option w.in-Chance.is in (omega (arith, w.count-is), omega (arith, w.count-is)))
-    ]
+abbrev is_option : Variable → Bool
+is_option v = eqb (one_if_option v.role) 1
 
 pub returns : goal.returns
 returns c =
-    omega (arith, at_drop_all options c.as_slice-all.result.now c.loop-v.v-index c.loop-v-test.false, ap options c.as_slice-all.ensures)
+    count_from_yields_List c.filter.result _ c.count.ensures.ran (YieldsList-from_filter _ is_option (YieldsList-at c.filter.ensures.source (YieldsList-from_slice c.as_slice.result.now cc)) c.filter.ensures.closure (λ x b q k. search (rules, tests)))
+    ∙ length-filter is_option c.as_slice.result.now
+    ∙ sym (is_count_by options is_option refl (λ v vs. step v.role (options vs)) c.as_slice.result.now)
+    ∙ ap options c.as_slice.ensures
+  where
+    step : (r : Role) (n : ℕ) → one_if_option r + n ≡ cond (eqb (one_if_option r) 1) (1 + n) n
+    step role.Option n = refl
+    step role.Chance n = omega arith

@@ -1,5 +1,0 @@
-use Rattle.kinds.specs.Tallies.{same_count}
-use Rattle.kinds.proofs.tally.TallyFigure.plus.Goals as goal
-
-pub returns : goal.returns
-returns c = same_count _ _ c.saturating_add.ensures

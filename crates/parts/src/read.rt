@@ -1,0 +1,57 @@
+//! Reads a file into stores on the heap.
+ghost use Rattle.std.specs.Prelude.{◌≡◌, drop, IfOk};
+ghost use Rattle.parts.specs.Parts.{largest, Reads};
+
+use crate::stores::{Parts, Room};
+use std::alloc::{AllocError, Global};
+use text::fault::Fault;
+use text::reader::read_table;
+use text::record::{Form, Node};
+
+impl Room {
+    /// Room for the largest table of the limits.
+    pub fn largest() -> Room
+        ensures { result ≡ largest }
+    {
+        let node = Node {
+            form: Form::False,
+            first: 0,
+            count: 0,
+        };
+        Room {
+            nodes: 4096,
+            children: 12288,
+            node,
+            child: 0,
+        }
+    }
+}
+
+impl Parts {
+    /// A file's parts, so much of the stores as its counts say, or why the file is refused.
+    pub fn read(heap: Global, room: &Room, file: &[u8]) -> Result<Result<Parts, Fault>, AllocError>
+        ensures { IfOk result (λ answer. Reads room.now file.now answer) }
+    {
+        let mut nodes = vec![in heap; room.node; room.nodes]?;
+        let mut children = vec![in heap; room.child; room.children]?;
+        match read_table(file, &mut nodes, &mut children) {
+            Ok(contents) => {
+                nodes.truncate(contents.nodes as usize);
+                children.truncate(contents.children as usize);
+                Ok(Ok(Parts {
+                    contents,
+                    nodes,
+                    children,
+                }))
+            }
+            Err(fault) => Ok(Err(fault)),
+        }
+    }
+
+    /// The weight text: what stands in the file behind the table.
+    pub fn weights<'a>(&self, file: &'a [u8]) -> &'a [u8]
+        ensures { result.now ≡ drop self.now.contents.weights file.now }
+    {
+        file.get(self.contents.weights..).unwrap_or(&[])
+    }
+}

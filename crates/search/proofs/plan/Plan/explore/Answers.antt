@@ -1,0 +1,72 @@
+use Rattle.std.proofs.Common.{◌≤◌, sym, refl, ap, ◌∙◌, arith}
+use Rattle.std.proofs.lemmas.Bool.{leb-true}
+use Rattle.table.specs.Whole.{circuit, roles}
+use Rattle.passes.proofs.Roots.{options_many}
+use Rattle.search.specs.Select.{explored, of_table, start}
+use Rattle.search.proofs.Naming.{named_free}
+use Rattle.search.proofs.Turns.{option_is, option_none}
+use Rattle.search.proofs.Walks.{walk_start, walk_few, walk_less, walk_fork, walk_back, walk_end}
+use Rattle.search.proofs.plan.Plan.explore.Given as given
+use Rattle.search.proofs.plan.Plan.explore.Goals as goal
+use Rattle.search.proofs.plan.Plan.explore.Goals.{After-options-levels}
+
+few : (g : given.Over) (c : After-options-levels g) → c.options-levels.result ≤ 20
+few g c = omega (arith, c.options-levels.ensures, leb-true _ 20 c.args.self.now.table.now.few)
+
+pub branches-init : goal.branches-init
+branches-init g c =
+    let t = c.args.self.now.table.now in
+    let R = g.K.Figure.ring in
+    let pick = g.O.BranchingOrder.picks c.args.self.now.order.now in
+    let p = of_table R pick (roles t) (circuit t) c.args.self.now.sheet.now in
+    record {
+      walking = walk_start R p c.options-levels.result c.args.holds.now.entries (start R pick (roles t) (circuit t) c.args.self.now.sheet.now);
+      behind = refl;
+    }
+
+pub open-requires : goal.open-requires
+open-requires g c = record {
+  room = omega (arith, c.requires.room, c.branches.auto.work);
+  few = walk_few c.branches.invariant.walking (few g (goal.at.open-requires g c).After-options-levels) refl;
+}
+
+pub returns-then-depth-eq0 : goal.returns-then-depth-eq0
+returns-then-depth-eq0 g c =
+    let t = c.args.self.now.table.now in
+    let R = g.K.Figure.ring in
+    let pick = g.O.BranchingOrder.picks c.args.self.now.order.now in
+    let b = c.retreat-depth.ensures in
+    record {
+      found = walk_end c.branches.invariant.walking c.open.ensures.found (few g (goal.at.returns-then-depth-eq0 g c).After-options-levels)
+          (option_none _ (sym c.in-None.is ∙ c.open.ensures.option)) b.depth b.trail b.holds c.if-depth-eq0.true
+          ∙ ap (λ n. explored R (of_table R pick (roles t) (circuit t) c.args.self.now.sheet.now) n c.args.holds.now.entries (start R pick (roles t) (circuit t) c.args.self.now.sheet.now))
+          (c.options-levels.ensures ∙ sym (options_many t));
+      work = c.open.ensures.work ∙ c.branches.invariant.behind;
+    }
+
+pub branches-smaller : goal.branches-smaller
+branches-smaller g c = walk_less c.branches.invariant.walking c.open.ensures.found
+
+pub branches-preserved : goal.branches-preserved
+branches-preserved g c =
+    let b = c.retreat-depth.ensures in
+    record {
+      walking = walk_back c.branches.invariant.walking c.open.ensures.found (few g (goal.at.branches-preserved g c).After-options-levels)
+          (option_none _ (sym c.in-None.is ∙ c.open.ensures.option)) b.depth b.trail b.holds (omega arith);
+      behind = c.open.ensures.work ∙ c.branches.invariant.behind;
+    }
+
+pub branches-smaller-in-Some : goal.branches-smaller-in-Some
+branches-smaller-in-Some g c = walk_less c.branches.invariant.walking c.open.ensures.found
+
+pub branches-preserved-in-Some : goal.branches-preserved-in-Some
+branches-preserved-in-Some g c =
+    let t = c.args.self.now.table.now in
+    let pick = g.O.BranchingOrder.picks c.args.self.now.order.now in
+    let law = g.met.O.BranchingOrder.names c.args.self.now.order.now in
+    let v = option_is _ c.in-Some.option (sym c.in-Some.is ∙ c.open.ensures.option) in
+    record {
+      walking = walk_fork c.branches.invariant.walking c.open.ensures.found (few g (goal.at.branches-preserved-in-Some g c).After-options-levels) v.0 (omega (arith, v))
+          (named_free g.K.Figure.ring pick law (roles t) (circuit t) c.args.self.now.sheet.now c.branches.current.entries) c.hold.ensures;
+      behind = c.open.ensures.work ∙ c.branches.invariant.behind;
+    }

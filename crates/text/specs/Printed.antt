@@ -1,0 +1,23 @@
+-- Text that a program prints, as bytes. Assumes nothing.
+use Rattle.std.specs.Prelude.{ℕ, List, [], ◌∷◌, ◌++◌, codes, decimal}
+
+-- a text is a list of lines, a line a list of fields
+abbrev pub Lines : Type 0
+Lines = List (List (List ℕ))
+
+-- the fields behind the first, each behind a tab, then the end of the line, then what follows
+abbrev pub fields_onto : List (List ℕ) → List ℕ → List ℕ
+fields_onto [] more = 10 ∷ more
+fields_onto (f ∷ fs) more = 9 ∷ (f ++ fields_onto fs more)
+
+abbrev pub line_onto : List (List ℕ) → List ℕ → List ℕ
+line_onto [] more = 10 ∷ more
+line_onto (f ∷ fs) more = f ++ fields_onto fs more
+
+abbrev pub text_of : Lines → List ℕ
+text_of [] = []
+text_of (l ∷ ls) = line_onto l (text_of ls)
+
+-- for a refusal: X, its number and its place
+abbrev pub refusal_fields : ℕ → ℕ → List (List ℕ)
+refusal_fields number place = codes "X" ∷ decimal number ∷ decimal place ∷ []
