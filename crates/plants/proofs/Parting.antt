@@ -1,8 +1,6 @@
 -- The parts of an accepted file, from those that the stores give. Assumes nothing.
-use Rattle.std.proofs.Common.{◌≡◌, ℕ, List, Ok, Result, refl, subst}
-use Rattle.text.specs.declared.fault.Fault.{Fault}
-use Rattle.parts.proofs.Filling.{parts_of}
-use Rattle.parts.specs.Parts.{Reads, ArePartsOf}
+use Rattle.std.proofs.Common.{◌≡◌, ℕ, List, refl, subst}
+use Rattle.parts.specs.Parts.{ArePartsOf}
 use Rattle.parts.specs.declared.stores.Parts.{Parts}
 use Rattle.parts.specs.declared.stores.Room.{Room}
 use Rattle.plants.specs.Parts.{AreReadInto}

@@ -17,7 +17,7 @@ use Rattle.text.specs.declared.record.Variable.{Variable}
 use Rattle.text.specs.declared.record.Variables.{Variables}
 use Rattle.table.specs.Circuit.{Vars}
 use Rattle.table.specs.Facts.{about}
-use Rattle.table.specs.Nodes.{shape, shapes}
+use Rattle.table.specs.Nodes.{shape}
 use Rattle.table.specs.Whole.{circuit}
 use Rattle.table.specs.declared.table.Table.{Table}
 use Rattle.text.specs.declared.record.Form.{Form}
