@@ -1,2 +1,3 @@
 pub mod Algebra
 pub mod Ranks
+pub mod Greatest

@@ -17,6 +17,7 @@ impl Figure for Peak {
         Peak::Load(Load { watts: 0 })
     }
 
+    #[tactic(auto, using(crate::proofs::Greatest::max_sum))]
     fn plus(self, other: Peak) -> Peak {
         self.max(other)
     }

@@ -1,7 +1,6 @@
 pub mod Products
 pub mod Reading
 pub mod Passing
-pub mod Striding
 pub mod Rowing
 pub mod Options
 pub mod Lowest

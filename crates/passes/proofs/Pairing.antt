@@ -2,11 +2,12 @@
 use Rattle.std.proofs.Common.{◌≡◌, ℕ, zero, suc, ◌+◌, ◌*◌, ◌<◌, ◌≤◌, Bool, true, false, cond, ◌&&◌, List, [], ◌∷◌, ◌++◌, map, length, get_or, take, drop, None, sym, refl, ap, ◌∙◌, ap₂, append_assoc, add-mul, one-mul, arith}
 use mathlib.Core.Path.{fun_ext}
 use Rattle.std.proofs.lemmas.List.{take_at, drop-drop, drop_at, length-take-le, take_all}
-use Rattle.std.proofs.lemmas.Bool.{cond-true}
+use Rattle.std.proofs.lemmas.Bool.{cond-true, and_from}
 use Rattle.kinds.specs.Semiring.{Semiring, greater, lesser}
 use Rattle.table.specs.Circuit.{Shape, Vars, mention, mentions}
-use Rattle.table.specs.Facts.{node, about, Ordered}
-use Rattle.table.specs.Sound.{Roles, none, options}
+use Rattle.table.specs.Facts.{Among, node, about, Ordered}
+use Rattle.table.specs.Sound.{Roles, is_option, none, options}
+use Rattle.table.proofs.Numbers.{listed_role}
 use Rattle.table.proofs.Truths.{about_at}
 use Rattle.table.proofs.Upward.{upward_more, upward_length}
 use Rattle.passes.specs.Holding.{Entries, entry, is_free, filter}
@@ -17,7 +18,7 @@ use Rattle.passes.specs.Ways.{made, plain_way, side_way}
 use Rattle.passes.proofs.Made.{plain_made, side_made}
 use Rattle.passes.proofs.Lowest.{filter_both, least_with, lowest_is}
 use Rattle.passes.proofs.Options.{option_there}
-use Rattle.passes.proofs.Rowing.{laid, sides_there, work_length, value_there, side_there, work_push}
+use Rattle.passes.proofs.Rowing.{laid, work_length, value_there, side_there, work_push}
 
 module _ {F : Type 0} (R : Semiring F) (rs : Roles) (sheet : List F) (h : Entries) (ss : List Shape) (stride : ℕ) (wide : stride ≡ 2 * length (options rs) + 1) (ps : List (Part F)) where
   abbrev W : List F
@@ -73,34 +74,26 @@ module _ {F : Type 0} (R : Semiring F) (rs : Roles) (sheet : List F) (h : Entrie
     abbrev row : List F
     row = sides R rs sheet part (options rs)
 
-    -- an option that is free and mentioned has its two values in the row
-    in_row : (j : ℕ) (b : Bool) → j < length (options rs) → open_at h (about ss i) (get_or (options rs) j 0) ≡ true
-        → get_or row (2 * j + cond b 0 1) R.zero ≡ side_of R rs sheet (mentions ss) h ps (node ss i) b (get_or (options rs) j 0)
-    in_row j b short t =
-        let v : ℕ = get_or (options rs) j 0 in
-        sides_there R rs sheet part (options rs) j b R.zero short ∙ sym (side_here j b short)
-        ∙ cond-true _ _ _ t ∙ side_is j short b (node ss i)
-
-    either_row : (j : ℕ) → j < length (options rs) → open_at h (about ss i) (get_or (options rs) j 0) ≡ true
-        → greater R (get_or row (2 * (0 + j)) R.zero) (get_or row (2 * (0 + j) + 1) R.zero) ≡ either_side R rs sheet (mentions ss) h ps (node ss i) (get_or (options rs) j 0)
-    either_row j short t =
-        let a : 2 * (0 + j) ≡ 2 * j + 0 = omega arith in
-        let b : 2 * (0 + j) + 1 ≡ 2 * j + 1 = omega arith in
-        ap₂ (λ x y. greater R (get_or row x R.zero) (get_or row y R.zero)) a b ∙ ap₂ (greater R) (in_row j true short t) (in_row j false short t)
+    -- an option that is free and mentioned has its two values
+    either_there : (v : ℕ) → Among v (options rs) → open_at h (about ss i) v ≡ true → greater R (part.side true v) (part.side false v) ≡ either_side R rs sheet (mentions ss) h ps (node ss i) v
+    either_there v m t =
+        let unheld : (is_option rs v && (is_free (entry h v) && mention (mentions ss) (node ss i) v)) ≡ true =
+        and_from _ _ (listed_role rs true v m).1 (ap (λ o. is_free (entry h v) && o) (sym (mentioned v)) ∙ t) in
+        ap₂ (greater R) (cond-true _ _ _ unheld) (cond-true _ _ _ unheld)
 
     free_are : filter (open_at h (about ss i)) (options rs) ≡ free_of R rs sheet (mentions ss) h (node ss i)
     free_are =
         ap (λ (m : Vars). filter (λ v. is_free (entry h v) && m v) (options rs)) (about_at ss ordered i)
         ∙ sym (filter_both (mention (mentions ss) (node ss i)) (λ v. is_free (entry h v)) (options rs))
 
-    value_by_list : (fs : List ℕ) → or_else (least_with R (open_at h (about ss i)) row None (map (either_side R rs sheet (mentions ss) h ps (node ss i)) fs)) (made R (plain_way R rs sheet h) (value_in R stride W) (node ss i)) ≡ value_of R rs sheet (mentions ss) h ps (node ss i) fs
+    value_by_list : (fs : List ℕ) → or_else (least_with R None (map (either_side R rs sheet (mentions ss) h ps (node ss i)) fs)) (made R (plain_way R rs sheet h) (value_in R stride W) (node ss i)) ≡ value_of R rs sheet (mentions ss) h ps (node ss i) fs
     value_by_list [] = plain_is (node ss i)
     value_by_list (v ∷ vs) = refl
 
     value_is : value_by R rs sheet h ss stride W row i (options rs) ≡ part.value
     value_is =
         ap (λ o. or_else o (made R (plain_way R rs sheet h) (value_in R stride W) (node ss i)))
-        (lowest_is R (open_at h (about ss i)) row (either_side R rs sheet (mentions ss) h ps (node ss i)) None 0 (options rs) either_row)
+        (lowest_is R rs sheet part (open_at h (about ss i)) (either_side R rs sheet (mentions ss) h ps (node ss i)) None (options rs) either_there)
         ∙ value_by_list (filter (open_at h (about ss i)) (options rs))
         ∙ ap (value_of R rs sheet (mentions ss) h ps (node ss i)) free_are
 

@@ -29,9 +29,6 @@ module _ {F : Type 0} (f : List F → Shape → F) (ss : List Shape) (start : Li
     passed_done : i < n → take i work ≡ take i (upward f ss)
     passed_done h = ap (take i) p.values ∙ take_at (take i (upward f ss)) (drop i start) i (front i (let e = p.many in omega arith))
 
-    pub passed_length : i < n → length ss ≤ length start → length work ≡ length start → length (take i work) ≡ i
-    passed_length h room long = length-take-le i work (let e = p.many in omega arith)
-
     pub passed_more : (v : F) → i < n → length ss ≤ length start → v ≡ f (take i work) (node ss i) → Passed n (set work i v) (i + 1)
     passed_more v h room e = record {
       values = ap (λ w. set w i v) p.values ∙ pass_more i v (let q = p.many in omega arith) room (e ∙ ap (λ d. f d (node ss i)) (passed_done h));

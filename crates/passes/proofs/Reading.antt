@@ -1,13 +1,13 @@
 -- What a sound table's nodes read: their records' children are in the child store, and their children's parts in the
 -- work places before their own. Assumes nothing.
-use Rattle.std.proofs.Common.{◌≡◌, ℕ, ◌+◌, ◌-◌, ◌*◌, ◌<◌, ◌≤◌, Bool, true, leb, List, [], ◌∷◌, length, get_or, take, drop, sym, refl, ap, ◌∙◌, subst, ap₂, inl, inr, mul-le-mul_right, add-mul, one-mul, arith}
-use Rattle.std.proofs.lemmas.List.{get_or_past, get_or-map, get_or_default}
-use Rattle.std.proofs.lemmas.Bool.{le-leb, leb-true, lt-ltb, ltb-true, cond-true, cond-false, and_from, and_parts, cases_lt, lt-leb}
+use Rattle.std.proofs.Common.{◌≡◌, ℕ, ◌+◌, ◌*◌, ◌<◌, ◌≤◌, Bool, true, leb, List, [], ◌∷◌, length, get_or, sym, refl, ap, ◌∙◌, inl, inr, mul-le-mul_right, add-mul, one-mul, arith}
+use Rattle.std.proofs.lemmas.List.{get_or_past, get_or-map}
+use Rattle.std.proofs.lemmas.Bool.{le-leb, leb-true, lt-ltb, cond-false, and_from, and_parts, cases_lt, lt-leb}
 use Rattle.text.specs.declared.record.Form.{Form}
 use Rattle.text.specs.declared.record.Form.TheVariants.{Literal, And, Fork, True, False}
 use Rattle.text.specs.declared.record.Node.{Node}
 use Rattle.table.specs.declared.table.Table.{Table}
-use Rattle.table.specs.Circuit.{Shape, lit, all, fork, top, bottom, every}
+use Rattle.table.specs.Circuit.{Shape, lit, all, fork, top, bottom}
 use Rattle.table.specs.Facts.{Among, node, Known, Proper}
 use Rattle.table.specs.Sound.{Roles, children}
 use Rattle.table.specs.Nodes.{shape, shape_by, stretch, no_node}
@@ -78,29 +78,3 @@ module _ (t : Table) (i : ℕ) (h : i < length t.nodes.now) (n : Node) (is : n �
   pub node_readable : (stride size : ℕ) → i * stride ≡ size → readable (length (roles t)) size stride (shape t.children.now n) ≡ true
   node_readable stride size e =
       readable_by (roles t) i stride size e (shape t.children.now n) below (λ v b s. proper.known_variables.0 i v b (node_is ∙ s))
-
-module _ (store : List ℕ) (x : Node) (stored : ranged store x ≡ true) where
-  abbrev of_form : Form → Shape
-  of_form f = shape_by store x.first x.count f
-
-  -- an and's children are its stretch of the store
-  pub and_is : x.form ≡ And → shape store x ≡ all (take (x.first + x.count - x.first) (drop x.first store))
-  and_is is =
-      let r : leb (x.first + x.count) (length store) ≡ true = subst (λ f. form_ranged (length store) x.first x.count f ≡ true) is stored in
-      let e : x.count ≡ x.first + x.count - x.first = omega arith in
-      ap of_form is ∙ ap all (cond-true _ (take x.count (drop x.first store)) _ r ∙ ap (λ k. take k (drop x.first store)) e)
-
-  fork_stored : (v : ℕ) → x.form ≡ Fork v → x.first + 1 < length store
-  fork_stored v is = ltb-true _ _ (subst (λ f. form_ranged (length store) x.first x.count f ≡ true) is stored)
-
-  pub fork_is : (v : ℕ) → x.form ≡ Fork v → shape store x ≡ fork v (get_or store x.first 0) (get_or store (x.first + 1) 0)
-  fork_is v is =
-      let h = fork_stored v is in
-      ap of_form is ∙ ap₂ (fork v) (get_or_default store x.first no_node 0 (omega arith)) (get_or_default store (x.first + 1) no_node 0 h)
-
-  module _ (n size stride : ℕ) (read : readable n size stride (shape store x) ≡ true) where
-    pub and_reads : x.form ≡ And → every (inside size stride) (take (x.first + x.count - x.first) (drop x.first store)) ≡ true
-    and_reads is = subst (λ s. readable n size stride s ≡ true) (and_is is) read
-
-    pub fork_reads : (v : ℕ) → x.form ≡ Fork v → (inside size stride (get_or store x.first 0) ≡ true) × (inside size stride (get_or store (x.first + 1) 0) ≡ true)
-    fork_reads v is = and_parts _ _ (subst (λ s. readable n size stride s ≡ true) (fork_is v is) read)

@@ -40,10 +40,12 @@ lower R (Some y) x = lesser R y x
 abbrev pub lowered : {F : Type 0} → Semiring F → Option F → Bool → F → F → Option F
 lowered R best taken on off = cond taken (Some (lower R best (greater R on off))) best
 
--- the least so far, with the options from index j on, whose values stand in a row
-abbrev pub lowest : {F : Type 0} → Semiring F → (ℕ → Bool) → List F → Option F → ℕ → List ℕ → Option F
-lowest R p row best j [] = best
-lowest R p row best j (v ∷ vs) = lowest R p row (lowered R best (p v) (slice_index_or row (2 * j) R.zero) (slice_index_or row (2 * j + 1) R.zero)) (j + 1) vs
+-- the least so far, with the options vs, whose values stand in a row
+abbrev pub lowest : {F : Type 0} → Semiring F → (ℕ → Bool) → List F → Option F → List ℕ → Option F
+lowest R p (x ∷ y ∷ row) best (v ∷ vs) = lowest R p row (lowered R best (p v) x y) vs
+lowest R p [] best vs = best
+lowest R p (x ∷ []) best vs = best
+lowest R p (x ∷ y ∷ row) best [] = best
 
 -- the least, or another figure if there is none
 abbrev pub or_else : {F : Type 0} → Option F → F → F
@@ -57,7 +59,7 @@ row_in R rs h ss stride done i vs = sides_by (side_or_zero R (mentions ss) strid
 -- the value of node i, whose options' values are in the row
 abbrev pub value_by : {F : Type 0} → Semiring F → Roles → List F → Entries → List Shape → (stride : ℕ) → List F → List F → (i : ℕ) → List ℕ → F
 value_by R rs sheet h ss stride done row i vs =
-    or_else (lowest R (open_at h (about ss i)) row None 0 vs) (made R (plain_way R rs sheet h) (value_in R stride done) (node ss i))
+    or_else (lowest R (open_at h (about ss i)) row None vs) (made R (plain_way R rs sheet h) (value_in R stride done) (node ss i))
 
 -- the part of node i
 abbrev pub part_in : {F : Type 0} → Semiring F → Roles → List F → Entries → List Shape → (stride : ℕ) → List F → (i : ℕ) → List ℕ → List F

@@ -6,7 +6,7 @@ ghost use Rattle.table.specs.Facts.{about};
 ghost use Rattle.table.specs.Sound.{options as options_of};
 ghost use Rattle.table.specs.Whole.{circuit, roles};
 ghost use Rattle.passes.specs.Passes.{work as laid_out, pairs};
-ghost use Rattle.passes.specs.Rows.{under_in, open_at, side_or_zero, lowest, row_in, value_by, part_in};
+ghost use Rattle.passes.specs.Rows.{under_in, open_at, side_or_zero, lower, lowest, row_in, value_by, part_in};
 ghost use Rattle.passes.specs.Ways.{side_way};
 
 use crate::parts::Parts;
@@ -126,16 +126,12 @@ impl<K: Figure> Step<'_, '_, '_, K> {
     /// its row.
     fn least(&self, row: &[K]) -> Option<K>
         requires { length row.now ≡ 2 * length self.now.options.now }
-        ensures { result ≡ lowest K.ring (open_at self.now.query.now.holds.now.entries (about (circuit self.now.query.now.table.now) self.now.node)) row.now None 0 self.now.options.now }
+        ensures { result ≡ lowest K.ring (open_at self.now.query.now.holds.now.entries (about (circuit self.now.query.now.table.now) self.now.node)) row.now None self.now.options.now }
     {
         let mut best = None;
-        for (j, variable) in self.options.iter().enumerate() {
+        for (variable, pair) in self.options.iter().zip(row.chunks_exact(2)) {
             if self.is_open(*variable) {
-                let higher = greater(row[2 * j], row[2 * j + 1]);
-                best = match best {
-                    Some(least) => Some(lesser(least, higher)),
-                    None => Some(higher),
-                };
+                best = Some(lower(best, greater(pair[0], pair[1])));
             }
         }
         best
@@ -150,6 +146,16 @@ impl<K: Figure> Step<'_, '_, '_, K> {
             Some(least) => least,
             None => self.query.node_at(&Plain, &self.parts, self.node),
         }
+    }
+}
+
+/// The lesser of the least so far and one more figure.
+fn lower<K: Figure>(best: Option<K>, figure: K) -> K
+    ensures { result ≡ lower K.ring best figure }
+{
+    match best {
+        Some(least) => lesser(least, figure),
+        None => figure,
     }
 }
 

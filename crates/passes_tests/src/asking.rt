@@ -1,15 +1,14 @@
 //! What the three passes answer.
-use kinds::figure::Figure;
-use passes::bounds::{pair_bound, plain_bound};
-use passes::figure::count_figure;
-use passes::holds::Holds;
 use plants::stores::Stores;
+use kinds::figure::Figure;
+use passes::holds::Holds;
+use passes::query::Query;
 use std::test::Fail;
 use table::check::check as check_table;
 use table::table::Table;
 
 /// The figure of the selection held, the plain bound and the bound.
-#[derive(Clone, Copy)]
+#[derive(Clone, Copy, PartialEq, Eq, Debug)]
 pub struct Answers<K> {
     pub figure: K,
     pub plain: K,
@@ -19,9 +18,7 @@ pub struct Answers<K> {
 /// The holds of a letter for each variable: 1 for on, 0 for off, another for free.
 pub(crate) fn holds_of(letters: &str) -> Holds {
     let mut holds = Holds::new();
-    let mut variable = 0u16;
-    for letter in letters.chars() {
-        variable = variable.wrapping_add(1);
+    for (variable, letter) in (1..).zip(letters.chars()) {
         match letter {
             '1' => holds.hold(variable, true),
             '0' => holds.hold(variable, false),
@@ -33,26 +30,16 @@ pub(crate) fn holds_of(letters: &str) -> Holds {
 
 // The pair pass comes last, so its work table stays. None where a store is too short.
 fn run<K: Figure>(table: &Table, sheet: &[K], holds: &Holds, work: &mut [K]) -> Option<Answers<K>> {
-    let nodes = table.nodes.len();
-    let options = table.variables.options();
-    if nodes > 4096 {
-        return None;
-    }
-    if options > 64 {
-        return None;
-    }
-    if sheet.len() < 2 * table.variables.count as usize {
-        return None;
-    }
-    if work.len() < nodes {
-        return None;
-    }
-    if work.len() < nodes * (2 * options + 1) {
-        return None;
-    }
-    let figure = count_figure(table, sheet, holds, work);
-    let plain = plain_bound(table, sheet, holds, work);
-    let bound = pair_bound(table, sheet, holds, work);
+    let sheet = sheet.get(..2 * table.variables.count as usize)?;
+    let query = Query {
+        table,
+        sheet,
+        holds,
+    };
+    let work = work.get_mut(..query.pair_room())?;
+    let figure = query.count_figure(work);
+    let plain = query.plain_bound(work);
+    let bound = query.pair_bound(work);
     Some(Answers {
         figure,
         plain,
@@ -69,12 +56,9 @@ pub(crate) fn ask<K: Figure>(
 ) -> Result<Answers<K>, Fail> {
     let nodes = stores.nodes.as_slice();
     let children = stores.children.as_slice();
-    let table = match check_table(nodes, children, &stores.variables) {
-        Ok(sets) => Table::new(nodes, children, stores.variables, sets),
-        Err(_) => return Err(Fail::new("refused")),
+    let Ok(sets) = check_table(nodes, children, &stores.variables) else {
+        return Err(Fail::new("refused"));
     };
-    match run(&table, sheet, holds, work) {
-        Some(answers) => Ok(answers),
-        None => Err(Fail::new("a store is too short")),
-    }
+    let table = Table::new(nodes, children, stores.variables, sets);
+    run(&table, sheet, holds, work).ok_or_else(|| Fail::new("a store is too short"))
 }

@@ -1,9 +1,10 @@
 //! Figures and bounds worked out by hand.
 use crate::asking::{ask, holds_of};
-use kinds::value::{Load, Peak, Tally};
 use plants::files::{PLANT, file};
 use plants::stores::Stores;
+use kinds::value::{Load, Peak, Tally};
 use std::alloc::Global;
+use std::iter;
 use std::process::Abort;
 use std::test::Fail;
 
@@ -81,18 +82,13 @@ fn plant(rt: HostRuntime) -> Result<(), Fail> {
         check_tallies(&rt, &stores, EVEN_DAY, due, rt.alloc())?;
     }
     let work = check_tallies(&rt, &stores, HOT_DAY, &("-", 3, 10, 7), rt.alloc())?;
-    let mut written = Vec::new(rt.alloc());
-    for part in HOT_DAY_WORK {
-        for count in *part {
-            written.push(*count)?;
-        }
-    }
     // behind what the passes write the marks stay
-    for (i, figure) in work.as_slice().iter().enumerate() {
-        let due = match written.as_slice().get(i) {
-            Some(count) => *count,
-            None => MARK,
-        };
+    let written = HOT_DAY_WORK.iter().flat_map(|part| part.iter().copied());
+    for (i, (figure, due)) in work
+        .iter()
+        .zip(written.chain(iter::repeat(MARK)))
+        .enumerate()
+    {
         assert_eq!(rt; figure.count, due, "place {i}");
     }
     Ok(())

@@ -1,10 +1,10 @@
 //! The answers against all worlds, one by one.
 use crate::asking::ask;
 use crate::figures::{Due, MARK, check_tallies, tallies};
-use kinds::value::Tally;
-use passes::holds::Holds;
 use plants::files::file;
 use plants::stores::Stores;
+use kinds::value::Tally;
+use passes::holds::{Entry, Holds};
 use std::alloc::Global;
 use std::test::Fail;
 use text::record::{Form, Node};
@@ -31,25 +31,17 @@ const BY_HAND: &[Due] = &[
 
 // Whether a variable is on in a world: the lowest bit is that of variable 1.
 fn is_on(world: u64, variable: u16) -> bool {
-    let mut rest = world;
-    for _ in 1..variable {
-        rest = rest / 2;
-    }
-    rest % 2 == 1
+    world.wrapping_shr(u32::from(variable.wrapping_sub(1))) % 2 == 1
 }
 
 // How many of a node's children are true.
-fn count_true(node: &Node, children: &[u16], truths: &[bool]) -> u16 {
-    let first = node.first as usize;
-    let mut count = 0u16;
-    for i in first..first.wrapping_add(node.count as usize) {
-        if let Some(child) = children.get(i) {
-            if let Some(true) = truths.get(*child as usize) {
-                count = count.wrapping_add(1);
-            }
-        }
-    }
-    count
+fn count_true(node: &Node, children: &[u16], truths: &[bool]) -> usize {
+    children
+        .iter()
+        .skip(node.first as usize)
+        .take(node.count as usize)
+        .filter(|child| truths.get(**child as usize) == Some(&true))
+        .count()
 }
 
 // Whether a world makes the root true.
@@ -60,7 +52,7 @@ fn holds_in(stores: &Stores, world: u64, heap: Global) -> Result<bool, Fail> {
         let count = count_true(node, stores.children.as_slice(), truths.as_slice());
         last = match node.form {
             Form::Literal { variable, on } => is_on(world, variable) == on,
-            Form::And => count == node.count,
+            Form::And => count == node.count as usize,
             Form::Fork { .. } => count > 0,
             Form::True => true,
             Form::False => false,
@@ -72,18 +64,10 @@ fn holds_in(stores: &Stores, world: u64, heap: Global) -> Result<bool, Fail> {
 
 // The product of the weights of a world's chances, 5 to 8.
 fn weight_of(world: u64) -> u64 {
-    let mut product = 1u64;
-    for variable in 5..9u16 {
-        let place = if is_on(world, variable) {
-            2 * variable as usize - 2
-        } else {
-            2 * variable as usize - 1
-        };
-        if let Some(weight) = WEIGHTS.get(place) {
-            product = product.wrapping_mul(*weight);
-        }
-    }
-    product
+    (5..9u16)
+        .map(|variable| 2 * variable as usize - if is_on(world, variable) { 2 } else { 1 })
+        .filter_map(|place| WEIGHTS.get(place))
+        .fold(1u64, |product, weight| product.wrapping_mul(*weight))
 }
 
 // The figures of the 16 selections, from all 256 worlds.
@@ -118,37 +102,22 @@ fn holds_at(number: u64) -> Holds {
 }
 
 // Whether a selection keeps them.
-fn is_kept(number: u64, selection: u64) -> bool {
-    let mut rest = number;
-    let mut kept = true;
-    for variable in 1..5u16 {
-        let broken = if is_on(selection, variable) { 2 } else { 1 };
-        if rest % 3 == broken {
-            kept = false;
-        }
-        rest = rest / 3;
-    }
-    kept
+fn is_kept(holds: &Holds, selection: u64) -> bool {
+    (1..5u16).all(|variable| match holds.entry(variable) {
+        Entry::Free => true,
+        entry => entry == Entry::from(is_on(selection, variable)),
+    })
 }
 
-// The figure of the first selection that keeps them (it has the free options off), the highest
-// figure of all that do, and how many do.
-fn kept_by(number: u64, figures: &[u64]) -> (u64, u64, u64) {
-    let mut first = 0u64;
-    let mut best = 0u64;
-    let mut count = 0u64;
+// The figures of the selections that keep them, in order: the first has the free options off.
+fn kept_by(holds: &Holds, figures: &[u64], heap: Global) -> Result<Vec<u64>, Fail> {
+    let mut kept = Vec::new(heap);
     for (selection, figure) in figures.iter().enumerate() {
-        if is_kept(number, selection as u64) {
-            if count == 0 {
-                first = *figure;
-            }
-            if *figure > best {
-                best = *figure;
-            }
-            count = count.wrapping_add(1);
+        if is_kept(holds, selection as u64) {
+            kept.push(*figure)?;
         }
     }
-    (first, best, count)
+    Ok(kept)
 }
 
 #[test]
@@ -163,18 +132,19 @@ fn worlds(rt: HostRuntime) -> Result<(), Fail> {
     let sheet = tallies(WEIGHTS, heap)?;
     let mut work = vec![in heap; Tally { count: MARK }; 297]?;
     for number in 0..81u64 {
-        let (first, best, count) = kept_by(number, figures.as_slice());
-        let answers = ask(
-            &stores,
-            sheet.as_slice(),
-            &holds_at(number),
-            work.as_mut_slice(),
-        )?;
+        let holds = holds_at(number);
+        let kept = kept_by(&holds, figures.as_slice(), heap)?;
+        let best = kept.iter().copied().max().unwrap_or(0);
+        let answers = ask(&stores, sheet.as_slice(), &holds, work.as_mut_slice())?;
         let bound = answers.bound.count;
-        assert_eq!(rt; answers.figure.count, first, "holds {number}");
+        assert_eq!(rt;
+            Some(answers.figure.count),
+            kept.first().copied(),
+            "holds {number}"
+        );
         assert!(rt; best <= bound, "holds {number}");
         assert!(rt; bound <= answers.plain.count, "holds {number}");
-        assert!(rt; count > 1 || bound == best, "holds {number}");
+        assert!(rt; kept.len() > 1 || bound == best, "holds {number}");
     }
     Ok(())
 }

@@ -2,7 +2,7 @@
 use crate::found::Found;
 
 /// What a study is asked. A variable goes by its number.
-#[derive(Clone, Copy)]
+#[derive(Clone, Copy, Debug, PartialEq, Eq)]
 pub enum Call<K> {
     Hold { variable: u16, on: bool },
     Release { variable: u16 },
@@ -14,7 +14,7 @@ pub enum Call<K> {
 }
 
 /// What an accepted call is answered. A call that is not accepted is answered its `Fault`.
-#[derive(Clone, Copy)]
+#[derive(Clone, Copy, Debug, PartialEq, Eq)]
 pub enum Reply<K> {
     Done,
     Value(K),

@@ -87,14 +87,13 @@ fn sound(rt: HostRuntime) -> Result<(), Fail> {
     check_file(
         &rt,
         PLANT,
-        None,
-        &[2, 1, 3, 2, 1, 3, 3],
+        Ok(&[2, 1, 3, 2, 1, 3, 3]),
         rt.alloc(),
         &"plant K",
     )?;
     for (roles, nodes, sets) in SOUND {
         let text = file(*roles, *nodes, rt.alloc())?;
-        check_file(&rt, text.as_str(), None, *sets, rt.alloc(), nodes)?;
+        check_file(&rt, text.as_str(), Ok(*sets), rt.alloc(), nodes)?;
     }
     Ok(())
 }
@@ -253,14 +252,7 @@ const FLAWED: &[(u8, usize, &str, &str)] = &[
 fn flawed(rt: HostRuntime) -> Result<(), Fail> {
     for (number, node, roles, nodes) in FLAWED {
         let text = file(*roles, *nodes, rt.alloc())?;
-        check_file(
-            &rt,
-            text.as_str(),
-            Some((*number, *node)),
-            &[],
-            rt.alloc(),
-            nodes,
-        )?;
+        check_file(&rt, text.as_str(), Err((*number, *node)), rt.alloc(), nodes)?;
     }
     Ok(())
 }

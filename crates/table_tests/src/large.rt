@@ -64,8 +64,7 @@ fn largest(rt: HostRuntime) -> Result<(), Fail> {
     check_file(
         &rt,
         text.as_str(),
-        None,
-        sets.as_slice(),
+        Ok(sets.as_slice()),
         rt.alloc(),
         &"the largest",
     )
@@ -89,14 +88,7 @@ fn largest_flawed(rt: HostRuntime) -> Result<(), Fail> {
     let rootless = rootless(rt.alloc())?;
     for (number, first, more) in ROOTS {
         let text = rooted(rootless.as_str(), *first, *more, rt.alloc())?;
-        check_file(
-            &rt,
-            text.as_str(),
-            Some((*number, 4095)),
-            &[],
-            rt.alloc(),
-            first,
-        )?;
+        check_file(&rt, text.as_str(), Err((*number, 4095)), rt.alloc(), first)?;
     }
     Ok(())
 }

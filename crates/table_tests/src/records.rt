@@ -67,27 +67,29 @@ fn records(rt: HostRuntime) -> Result<(), Fail> {
             &[ON, OFF, node],
             *children,
             &variables,
-            number.map(|n| (n, 2)),
-            &[1, 1, 1],
+            match *number {
+                Some(number) => Err((number, 2)),
+                None => Ok(&[1, 1, 1]),
+            },
             &format_args!("{first} {count}"),
         );
     }
     Ok(())
 }
 
-// How many true nodes, how many options, and the refusal, if there is one.
+// How many true nodes, how many options, and the refusal, or that no node mentions anything.
 const COUNTS: &[(usize, u8, Due)] = &[
-    (1, 1, None),
-    (4096, 20, None),
-    (0, 1, Some((4, 1))),
-    (4097, 1, Some((4, 1))),
-    (65537, 1, Some((4, 1))),
-    (1, 0, Some((4, 1))),
-    (0, 0, Some((4, 1))),
-    (1, 21, Some((6, 22))),
-    (4096, 64, Some((6, 65))),
-    (0, 21, Some((4, 1))),
-    (4097, 64, Some((4, 1))),
+    (1, 1, Ok(&[])),
+    (4096, 20, Ok(&[])),
+    (0, 1, Err((4, 1))),
+    (4097, 1, Err((4, 1))),
+    (65537, 1, Err((4, 1))),
+    (1, 0, Err((4, 1))),
+    (0, 0, Err((4, 1))),
+    (1, 21, Err((6, 22))),
+    (4096, 64, Err((6, 65))),
+    (0, 21, Err((4, 1))),
+    (4097, 64, Err((4, 1))),
 ];
 
 #[test]
@@ -112,7 +114,6 @@ fn counts(rt: HostRuntime) -> Result<(), Fail> {
             &[],
             &variables,
             *due,
-            &[],
             &format_args!("{} nodes", nodes.len()),
         );
     }

@@ -11,8 +11,8 @@ use text::fault::Layer;
 use text::record::{Form, Node, Variables};
 use text::refusal::Refusal;
 
-/// The number and the place of a refusal that is due, if one is.
-pub type Due = Option<(u8, usize)>;
+/// What the check should answer: the first nodes' sets of variables, or a refusal's number and place.
+pub type Due<'a> = Result<&'a [u64], (u8, usize)>;
 
 /// Stores with marks in them, which would show where the reader leaves a place unwritten.
 const MARKED: Room = Room {
@@ -36,7 +36,6 @@ pub(crate) fn check_file(
     rt: &impl Abort,
     file: &str,
     due: Due,
-    sets: &[u64],
     heap: Global,
     case: &impl Display,
 ) -> Result<(), Fail> {
@@ -47,32 +46,31 @@ pub(crate) fn check_file(
         stores.children.as_slice(),
         &stores.variables,
         due,
-        sets,
         case,
     );
     Ok(())
 }
 
-/// The check of these parts answers this refusal, or none and these sets of variables.
+/// The check of these parts answers this.
 pub(crate) fn check_answer(
     rt: &impl Abort,
     nodes: &[Node],
     children: &[u16],
     variables: &Variables,
     due: Due,
-    sets: &[u64],
     case: &impl Display,
 ) {
     match check_table(nodes, children, variables) {
         Ok(mentions) => {
-            assert_eq!(rt; None, due, "{case}");
-            check_sets(rt, &mentions, sets, case)
+            assert!(rt; due.is_ok(), "accepted: {case}");
+            check_sets(rt, &mentions, due.unwrap_or(&[]), case)
         }
         Err(fault) => {
-            assert_eq!(rt; Some((fault.number(), fault.place())), due, "{case}");
+            let refusal = (fault.number(), fault.place());
+            assert_eq!(rt; Some(refusal), due.err(), "{case}");
             assert_eq!(rt;
                 matches!(fault.layer(), Layer::Table),
-                fault.number() >= 8,
+                refusal.0 >= 8,
                 "{case}"
             );
         }

@@ -1,11 +1,13 @@
--- Lines by the place of the next byte 10. Assumes nothing.
+-- Lines by the place of the next byte 10, and how many fields a line has. Assumes nothing.
 use Rattle.std.proofs.Common.{◌≡◌, ℕ, suc, ◌+◌, ◌-◌, ◌<◌, ◌≤◌, true, false, cond, eqb, ◌⊎◌, inl, inr, List, [], ◌∷◌, length, take, drop, Some, None, Option, unwrap_or, sym, refl, ap, ◌∙◌, ap₂, add-one, arith}
 use Rattle.std.specs.List.{AllWithin, HoldsAt}
 use Rattle.std.specs.Option.{MatchOption}
 use Rattle.std.proofs.lemmas.Iterator.{index_from_first}
 use Rattle.std.proofs.lemmas.List.{take_rest, drop-drop, length-drop, length-take-le}
+use Rattle.std.proofs.lemmas.List.Splits.{length-slice_split}
+use Rattle.std.proofs.lemmas.List.Sums.{count_by-le-length}
 use Rattle.std.proofs.lemmas.Bool.{cases_lt, cond_both, cond-true, cond-false, eq-eqb, ne_eqb}
-use Rattle.text.specs.Lines.{onto, index_of, lines, BeginsWithLine}
+use Rattle.text.specs.Lines.{onto, index_of, lines, fields, BeginsWithLine}
 
 -- the place is within the text
 pub index_le : (b : ℕ) (xs : List ℕ) → index_of b xs ≤ length xs
@@ -65,6 +67,13 @@ cut xs = elim (cases_lt (index_of 10 xs) (length xs)) [
 
 pub no_lines : (xs : List ℕ) (r : Option ℕ) → IsFirst 10 xs r → r ≡ None → lines xs ≡ []
 no_lines xs r h e = no_line xs (omega (arith, index_at 10 xs r h ∙ ap (λ o. unwrap_or o (length xs)) e))
+
+-- a line has a field, and at most one more than it has bytes
+pub some_field : (xs : List ℕ) → 1 ≤ length (fields xs)
+some_field xs = omega (arith, length-slice_split (λ b. eqb b 9) xs)
+
+pub few_fields : (xs : List ℕ) → length (fields xs) ≤ length xs + 1
+few_fields xs = omega (arith, length-slice_split (λ b. eqb b 9) xs, count_by-le-length (λ b. eqb b 9) xs)
 
 -- the lines of what is left of a text, by the end of the first of them
 module _ (xs : List ℕ) (at r : ℕ) (inside : at ≤ length xs) (is : r ≡ index_of 10 (take (length xs - at) (drop at xs))) where

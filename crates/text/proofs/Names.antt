@@ -1,9 +1,8 @@
 -- Names and variables: two records with the same parts are equal, and a list is found again in its record.
-use Rattle.std.proofs.Common.{◌≡◌, ℕ, ◌+◌, ◌<◌, ◌≤◌, min, List, [], ◌∷◌, ◌++◌, length, get_or, take, drop, set, replicate, ◌∙◌, zero-add, arith, rules}
+use Rattle.std.proofs.Common.{◌≡◌, ℕ, ◌<◌, ◌≤◌, min, List, [], ◌∷◌, ◌++◌, length, take, drop, set, replicate, ◌∙◌, arith, rules}
 use mathlib.Core.HLevel.{is_prop→PathP}
 use native.Mathlib.Bridge.{le_prop}
 use Rattle.std.proofs.lemmas.List.{places, same_lists, take-take, take_at, get_or-set_same}
-use Rattle.std.proofs.lemmas.List.Edits.{paste_more}
 use Rattle.std.proofs.lemmas.Bool.{cases_eq}
 use Rattle.text.specs.declared.record.Name.{Name}
 use Rattle.text.specs.declared.record.Variable.{Variable}
@@ -28,10 +27,6 @@ spelled_name_of f h = filled 24 0 f h
 
 pub listed_variables_of : (vs : List Variable) → length vs ≤ 64 → listed (variables_of vs) ≡ vs
 listed_variables_of vs h = filled 64 blank vs h
-
--- one more element copied
-pub copied_more : {A : Type 0} (to from : List A) (i : ℕ) (d : A) → i < length to → i < length from → set (take i from ++ drop i to) i (get_or from i d) ≡ take (i + 1) from ++ drop (i + 1) to
-copied_more to from i d h l = simp zero-add at (paste_more to 0 from i d (omega arith) l)
 
 -- the front of a list, written over the first fillers
 pub written : {A : Type 0} (n : ℕ) (d : A) (xs : List A) → take (min (length xs) n) xs ++ drop (min (length xs) n) (replicate n d) ≡ take n (xs ++ replicate n d)

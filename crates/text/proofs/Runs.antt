@@ -1,5 +1,5 @@
 -- The reader line by line. Assumes nothing.
-use Rattle.std.proofs.Common.{◌≡◌, ℕ, ◌+◌, ◌-◌, ◌<◌, ◌≤◌, true, false, ◌&&◌, leb, List, [], ◌∷◌, ◌++◌, length, take, drop, Ok, Err, Result, inl, inr, sym, refl, ap, ◌∙◌, subst, arith}
+use Rattle.std.proofs.Common.{◌≡◌, ℕ, ◌+◌, ◌-◌, ◌<◌, ◌≤◌, true, false, ◌&&◌, leb, List, [], ◌∷◌, ◌++◌, length, take, drop, Ok, Err, Result, inl, inr, sym, refl, ap, ◌∙◌, ap₂, subst, arith}
 use Rattle.std.proofs.lemmas.List.{length-take-le, take-append-drop, drop-drop, length-drop}
 use Rattle.std.proofs.lemmas.Bool.{cond-true, cond-false, and_from, le-leb}
 use Rattle.text.specs.declared.fault.Reason.{Reason}
@@ -9,11 +9,12 @@ use Rattle.text.specs.declared.fault.Fault.TheVariants as fault
 use Rattle.text.specs.declared.kind.Kind.{Kind}
 use Rattle.text.specs.declared.kind.Section.{Section}
 use Rattle.text.specs.declared.kind.Section.TheVariants as section
+use Rattle.text.specs.declared.progress.Progress.{Progress}
 use Rattle.text.specs.declared.record.Node.{Node}
 use Rattle.text.specs.declared.record.Contents.{Contents}
 use Rattle.text.specs.Lines.{every, printable, index_of, lines, fields}
 use Rattle.text.specs.Format.{Rooms, rooms_for, Sofar, Reading, header_says, variable_says, entry_says, fitting, is_header, is_variable, section_at, kind_of, all_read, is_complete, by_section, by_fields, line_says, accepted, refused, read_on, nothing_yet, file_says, overwritten}
-use Rattle.text.specs.Steps.{State, state, sofar, rooms_of, Bounded, Taken, begun, first_says}
+use Rattle.text.specs.Steps.{sofar, rooms_of, Taken, first_says}
 use Rattle.text.proofs.Cuts.{cut}
 use Rattle.text.proofs.Limits.{same_ok, same_err, provided_ok, then_ok, never}
 
@@ -82,14 +83,13 @@ kept_on m n xs ys zs le e f =
 -- The whole file, read into the stores ns and cs.
 module _ (file : List ℕ) (ns : List Node) (cs : List ℕ) where
   -- what is left says what the file says; behind what was read the stores are as they were
-  pub record Going (s : State) : Type 0 where
-    pub reads : read_on (rooms_for ns cs) (sofar s) (lines (drop s.at.place file)) ≡ read_on (rooms_for ns cs) nothing_yet (lines file)
-    pub bounded : Bounded s
-    pub within : s.at.place ≤ length file
-    pub nodes_long : length s.nodes ≡ length ns
-    pub children_long : length s.children ≡ length cs
-    pub nodes_kept : drop s.at.nodes s.nodes ≡ drop s.at.nodes ns
-    pub children_kept : drop s.at.children s.children ≡ drop s.at.children cs
+  pub record Going (s : Progress) : Type 0 where
+    pub reads : read_on (rooms_for ns cs) (sofar s) (lines (drop s.place file)) ≡ read_on (rooms_for ns cs) nothing_yet (lines file)
+    pub within : s.place ≤ length file
+    pub nodes_long : length s.node_store.now ≡ length ns
+    pub children_long : length s.child_store.now ≡ length cs
+    pub nodes_kept : drop s.nodes s.node_store.now ≡ drop s.nodes ns
+    pub children_kept : drop s.children s.child_store.now ≡ drop s.children cs
 
   -- the answer and the stores are those of a reading
   pub record Ends (told : Reading) (answer : Result Contents Fault) (ns' : List Node) (cs' : List ℕ) : Type 0 where
@@ -100,72 +100,60 @@ module _ (file : List ℕ) (ns : List Node) (cs : List ℕ) where
   overwritten_front : {A : Type 0} (n : ℕ) (xs old : List A) → n ≤ length xs → drop n xs ≡ drop n old → xs ≡ overwritten (take n xs) old
   overwritten_front n xs old h e = sym (take-append-drop n xs) ∙ ap (λ ys. take n xs ++ ys) (e ∙ ap (λ k. drop k old) (sym (length-take-le n xs h)))
 
-  pub begins : 1 ≤ length file → Going (state begun ns cs)
-  begins h = record {
-    reads = refl;
-    bounded = record {
-      first_line = omega arith;
-      start = λ e. refl;
-      variables_are = refl;
-      variables_few = omega arith;
-      limit_variables = omega arith;
-      limit_children = omega arith;
-      room_nodes = omega arith;
-      room_children = omega arith;
-      nodes_within = omega arith;
-      children_within = omega arith;
-      lines = omega arith;
-      places = omega arith;
-    };
-    within = omega arith;
-    nodes_long = refl;
-    children_long = refl;
-    nodes_kept = refl;
-    children_kept = refl;
+  pub begins : (s : Progress) → sofar s ≡ nothing_yet → s.node_store.now ≡ ns → s.child_store.now ≡ cs → Going s
+  begins s none nodes children = record {
+    reads = ap₂ (λ t p. read_on (rooms_for ns cs) t (lines (drop p file))) none (ap (λ t. t.place) none);
+    within = omega (arith, ap (λ t. t.place) none);
+    nodes_long = ap length nodes;
+    children_long = ap length children;
+    nodes_kept = ap (drop s.nodes) nodes;
+    children_kept = ap (drop s.children) children;
   }
 
-  module _ (s : State) (g : Going s) where
-    nodes_inside : s.at.nodes ≤ length s.nodes
-    nodes_inside = omega (arith, g.bounded.nodes_within, g.bounded.room_nodes)
+  module _ (s : Progress) (g : Going s) where
+    -- the stores keep their lengths
+    pub rooms_same : rooms_of s ≡ rooms_for ns cs
+    rooms_same = λ i. record { nodes = g.nodes_long i; children = g.children_long i }
 
-    children_inside : s.at.children ≤ length s.children
-    children_inside = omega (arith, g.bounded.children_within, g.bounded.room_children)
+    nodes_inside : s.nodes ≤ length s.node_store.now
+    nodes_inside = omega (arith, s.nodes_within, s.room_nodes)
 
-    pub completeness : is_complete (sofar s) ≡ all_read s.at.header s.at.line (length (sofar s).variables) s.at.nodes
-    completeness = ap (all_read s.at.header s.at.line (length (sofar s).variables)) (length-take-le s.at.nodes s.nodes nodes_inside)
+    children_inside : s.children ≤ length s.child_store.now
+    children_inside = omega (arith, s.children_within, s.room_children)
 
-    ends : (told : Reading) (answer : Result Contents Fault) → told.nodes ≡ take s.at.nodes s.nodes → told.children ≡ take s.at.children s.children → answer ≡ told.answer → Ends told answer s.nodes s.children
+    pub completeness : is_complete (sofar s) ≡ all_read s.header s.line (length (sofar s).variables) s.nodes
+    completeness = ap (all_read s.header s.line (length (sofar s).variables)) (length-take-le s.nodes s.node_store.now nodes_inside)
+
+    ends : (told : Reading) (answer : Result Contents Fault) → told.nodes ≡ take s.nodes s.node_store.now → told.children ≡ take s.children s.child_store.now → answer ≡ told.answer
+        → Ends told answer s.node_store.now s.child_store.now
     ends told answer n c a = record {
       answer_is = a;
-      nodes_are = overwritten_front s.at.nodes s.nodes ns nodes_inside g.nodes_kept ∙ ap (λ xs. overwritten xs ns) (sym n);
-      children_are = overwritten_front s.at.children s.children cs children_inside g.children_kept ∙ ap (λ xs. overwritten xs cs) (sym c);
+      nodes_are = overwritten_front s.nodes s.node_store.now ns nodes_inside g.nodes_kept ∙ ap (λ xs. overwritten xs ns) (sym n);
+      children_are = overwritten_front s.children s.child_store.now cs children_inside g.children_kept ∙ ap (λ xs. overwritten xs cs) (sym c);
     }
 
-    pub ends_accepted : is_complete (sofar s) ≡ true → Ends (read_on (rooms_for ns cs) nothing_yet (lines file)) (accepted (sofar s)).answer s.nodes s.children
+    pub ends_accepted : is_complete (sofar s) ≡ true → Ends (read_on (rooms_for ns cs) nothing_yet (lines file)) (accepted (sofar s)).answer s.node_store.now s.child_store.now
     ends_accepted h =
-        let e = sym (read_complete (rooms_for ns cs) (sofar s) (lines (drop s.at.place file)) h) ∙ g.reads in
-        ends _ _ (sym (ap (λ x. x.nodes) e)) (sym (ap (λ x. x.children) e)) (ap (λ x. x.answer) e)
-
-    ends_refused : (r : Reason) → read_on (rooms_for ns cs) (sofar s) (lines (drop s.at.place file)) ≡ refused (sofar s) r → Ends (read_on (rooms_for ns cs) nothing_yet (lines file)) (Err (fault.Line r s.at.line)) s.nodes s.children
-    ends_refused r f =
-        let e = sym f ∙ g.reads in
+        let e = sym (read_complete (rooms_for ns cs) (sofar s) (lines (drop s.place file)) h) ∙ g.reads in
         ends _ _ (sym (ap (λ x. x.nodes) e)) (sym (ap (λ x. x.children) e)) (ap (λ x. x.answer) e)
 
     module _ (due : is_complete (sofar s) ≡ false) where
-      pub ends_line : (r : Reason) → first_says (rooms_for ns cs) (sofar s) (lines (drop s.at.place file)) ≡ Err r → Ends (read_on (rooms_for ns cs) nothing_yet (lines file)) (Err (fault.Line r s.at.line)) s.nodes s.children
-      ends_line r says = ends_refused r (read_refused (rooms_for ns cs) (sofar s) due (lines (drop s.at.place file)) r says)
+      pub ends_line : (r : Reason) → first_says (rooms_for ns cs) (sofar s) (lines (drop s.place file)) ≡ Err r → Ends (read_on (rooms_for ns cs) nothing_yet (lines file)) (Err (fault.Line r s.line)) s.node_store.now s.child_store.now
+      ends_line r says =
+          let e = sym (read_refused (rooms_for ns cs) (sofar s) due (lines (drop s.place file)) r says) ∙ g.reads in
+          ends _ _ (sym (ap (λ x. x.nodes) e)) (sym (ap (λ x. x.children) e)) (ap (λ x. x.answer) e)
 
-      pub goes_on : (t : State) → length t.nodes ≡ length s.nodes → length t.children ≡ length s.children → Taken s t (first_says (rooms_for ns cs) (sofar s) (lines (drop s.at.place file))) → Going t
+      pub goes_on : (t : Progress) → length t.node_store.now ≡ length s.node_store.now → length t.child_store.now ≡ length s.child_store.now
+          → Taken s t (first_says (rooms_for ns cs) (sofar s) (lines (drop s.place file))) → Going t
       goes_on t nodes-same children-same taken =
           let on = next_place (rooms_for ns cs) (sofar s) (sofar t) file g.within taken.says in
           record {
-            reads = ap (read_on (rooms_for ns cs) (sofar t)) (sym on.2) ∙ sym (read_taken (rooms_for ns cs) (sofar s) due (lines (drop s.at.place file)) (sofar t) taken.says) ∙ g.reads;
-            bounded = taken.bounded;
+            reads = ap (read_on (rooms_for ns cs) (sofar t)) (sym on.2) ∙ sym (read_taken (rooms_for ns cs) (sofar s) due (lines (drop s.place file)) (sofar t) taken.says) ∙ g.reads;
             within = on.1;
             nodes_long = nodes-same ∙ g.nodes_long;
             children_long = children-same ∙ g.children_long;
-            nodes_kept = kept_on s.at.nodes t.at.nodes t.nodes s.nodes ns taken.untouched.on.0 taken.untouched.nodes g.nodes_kept;
-            children_kept = kept_on s.at.children t.at.children t.children s.children cs taken.untouched.on.1 taken.untouched.children g.children_kept;
+            nodes_kept = kept_on s.nodes t.nodes t.node_store.now s.node_store.now ns taken.on.0 taken.nodes g.nodes_kept;
+            children_kept = kept_on s.children t.children t.child_store.now s.child_store.now cs taken.on.1 taken.children g.children_kept;
           }
 
   -- a file of 1 to 65536 bytes is read line by line
@@ -178,7 +166,3 @@ module _ (file : List ℕ) (ns : List Node) (cs : List ℕ) where
   pub ends_outside : (leb 1 (length file) && leb (length file) 65536) ≡ false → Ends (file_says (rooms_for ns cs) file) (Err fault.Length) ns cs
   unfolding file_says
   ends_outside h = subst (λ told. Ends told (Err fault.Length) ns cs) (sym (cond-false _ _ _ h)) (record { answer_is = refl; nodes_are = refl; children_are = refl })
-
-  -- the stores keep their lengths
-  pub rooms_same : (s : State) → Going s → rooms_of s ≡ rooms_for ns cs
-  rooms_same s g = λ i. record { nodes = g.nodes_long i; children = g.children_long i }

@@ -1,5 +1,5 @@
 -- What a line says in each section. Assumes nothing.
-use Rattle.std.proofs.Common.{◌≡◌, ℕ, ◌≤◌, true, false, List, [], ◌∷◌, length, get_or, drop, Err, Result, sym, refl, ap, ◌∙◌, ap₂, subst, arith}
+use Rattle.std.proofs.Common.{◌≡◌, ℕ, ◌≤◌, true, false, List, [], ◌∷◌, length, get_or, drop, Ok, Err, Result, sym, refl, ap, ◌∙◌, ap₂, subst, arith}
 use Rattle.std.proofs.lemmas.Bool.{cond-true, cond-false}
 use Rattle.text.specs.declared.fault.Reason.{Reason}
 use Rattle.text.specs.declared.fault.Reason.TheVariants as reason
@@ -7,10 +7,11 @@ use Rattle.text.specs.declared.kind.Kind.{Kind}
 use Rattle.text.specs.declared.kind.Kind.TheVariants as kind
 use Rattle.text.specs.declared.kind.Section.{Section}
 use Rattle.text.specs.declared.kind.Section.TheVariants as section
+use Rattle.text.specs.declared.progress.Progress.{Progress}
 use Rattle.text.specs.Lines.{every, printable, fields}
-use Rattle.text.specs.Format.{Rooms, Sofar, listed, section_at, kind_of, is_header, is_variable, by_section, by_fields, line_says}
-use Rattle.text.specs.Steps.{State, sofar, rooms_of, says_in, says, Steps}
-use Rattle.text.proofs.Entries.{some_field}
+use Rattle.text.specs.Format.{Said, Rooms, Sofar, listed, section_at, kind_of, is_header, is_variable, by_section, by_fields, line_says}
+use Rattle.text.specs.Steps.{sofar, rooms_of, says_in, says, Steps, Taken, HasStoresOf}
+use Rattle.text.proofs.Cuts.{some_field}
 
 by_first : (rooms : Rooms) (s : Sofar) (size : ℕ) (fs : List (List ℕ)) → 1 ≤ length fs → by_fields rooms s size fs ≡ by_section rooms s size (section_at s.header s.line (length s.variables)) (kind_of (get_or fs 0 [])) (drop 1 fs)
 by_first rooms s size [] h = absurd (omega arith)
@@ -36,13 +37,25 @@ not_variable kind.True h = refl
 not_variable kind.False h = refl
 not_variable kind.Other h = refl
 
--- A line l after the state s.
-module _ (s : State) (l : List ℕ) where
+-- nothing was done
+pub same_stores : (s : Progress) → HasStoresOf s s
+same_stores s = record { nodes = refl; children = refl; nodes_long = refl; children_long = refl }
+
+pub refused_by : {U : Type 0} (said : Progress → Said Sofar) (s : Progress) (r : Reason) → said s ≡ Err r → Steps said s s {U = U} (Err r)
+refused_by said s r e = record { moves = (e, refl, refl); stores = same_stores s }
+
+-- two ways to say the same
+pub said_by : {U : Type 0} (said says : Progress → Said Sofar) (s u : Progress) (r : Result U Reason) → said s ≡ says s → Steps said s u r → Steps says s u r
+said_by said says s u (Ok x) e h = record { moves = subst (Taken s u) e h.moves; stores = h.stores }
+said_by said says s u (Err x) e h = record { moves = (sym e ∙ h.moves.0, h.moves.1, h.moves.2); stores = h.stores }
+
+-- A line l after the progress s.
+module _ (s : Progress) (l : List ℕ) where
   pub unprintable : every printable l ≡ false → says l s ≡ Err reason.Line
   unfolding line_says
   unprintable h = cond-false (every printable l) _ _ h
 
-  module _ (clean : every printable l ≡ true) (t : Section) (at : t ≡ section_at s.at.header s.at.line (length (listed s.at.variables))) (k : Kind) (is : k ≡ kind_of (get_or (fields l) 0 [])) where
+  module _ (clean : every printable l ≡ true) (t : Section) (at : t ≡ section_at s.header s.line (length (listed s.variables))) (k : Kind) (is : k ≡ kind_of (get_or (fields l) 0 [])) where
     says_by : says l s ≡ says_in t k l s
     unfolding line_says
     says_by =
@@ -50,8 +63,8 @@ module _ (s : State) (l : List ℕ) where
         ∙ ap₂ (λ u j. by_section (rooms_of s) (sofar s) (length l) u j (drop 1 (fields l))) (sym at) (sym is)
 
     -- what is done for the section and the kind is done for the line
-    pub steps_by : {U : Type 0} (u : State) (r : Result U Reason) → Steps (says_in t k l) s u r → Steps (says l) s u r
-    steps_by u r h = subst (λ said. Steps (λ _. said) s u r) (sym says_by) h
+    pub steps_by : {U : Type 0} (u : Progress) (r : Result U Reason) → Steps (says_in t k l) s u r → Steps (says l) s u r
+    steps_by u r h = said_by (says_in t k l) (says l) s u r (sym says_by) h
 
     pub no_header : t ≡ section.Header → (k ≡ kind.Header → ⊥) → says l s ≡ Err reason.Line
     no_header e h = says_by ∙ ap (λ u. says_in u k l s) e ∙ cond-false (is_header k) _ _ (not_header k h)

@@ -1,7 +1,7 @@
 //! What the header line and a variable line say.
 ghost use Rattle.std.specs.Prelude.{◌≡◌, [], drop, slice_index_or};
 ghost use Rattle.text.specs.Lines.{fields};
-ghost use Rattle.text.specs.Format.{number_field, header_says, role_of, variable_says, listed, Rooms};
+ghost use Rattle.text.specs.Format.{number_field, header_says, role_of, follows_rules, variable_says, listed, Rooms};
 
 use crate::fault::Reason;
 use crate::fields::{field, field_count};
@@ -16,6 +16,7 @@ pub fn number_field(line: &[u8], k: usize) -> Result<u16, Reason>
 }
 
 /// The header line, with the lengths of the two stores.
+#[tactic(auto, unfolding(crate::specs::Format::header_says))]
 pub(crate) fn header_line(
     line: &[u8],
     node_room: usize,
@@ -53,7 +54,22 @@ pub(crate) fn role(letter: &[u8]) -> Option<Role>
     }
 }
 
+/// Whether a variable follows the rules, after the variables before it.
+#[tactic(auto, using(crate::proofs::Says::options_within, crate::proofs::Says::one_within))]
+fn follows_rules(before: &Variables, number: u16, role: Role, name: &[u8]) -> bool
+    ensures { result ≡ follows_rules (listed before.now) number role name.now }
+{
+    let due = before.as_slice().len() + 1;
+    let options = before.options() + usize::from(role == Role::Option);
+    number as usize == due
+        && name.len() >= 1
+        && name.len() <= 24
+        && !before.is_named(name)
+        && options <= 20
+}
+
 /// A variable line, after the variables before it.
+#[tactic(auto, using(crate::proofs::Says::four), unfolding(crate::specs::Format::variable_says))]
 pub(crate) fn variable_line(line: &[u8], before: &Variables) -> Result<Variable, Reason>
     ensures { result ≡ variable_says (listed before.now) (drop 1 (fields line.now)) }
 {
@@ -63,14 +79,7 @@ pub(crate) fn variable_line(line: &[u8], before: &Variables) -> Result<Variable,
     let number = number_field(line, 1)?;
     let role = role(field(line, 2)).ok_or(Reason::Variable)?;
     let name = field(line, 3);
-    let due = before.as_slice().len() + 1;
-    let options = before.options() + usize::from(role == Role::Option);
-    if number as usize != due
-        || name.len() < 1
-        || name.len() > 24
-        || before.is_named(name)
-        || options > 20
-    {
+    if !follows_rules(before, number, role, name) {
         return Err(Reason::Variable);
     }
     Ok(Variable {

@@ -35,6 +35,7 @@ pub(crate) fn write_numbers(line: &[u8], from: usize, store: &mut [u16], first: 
     requires { first + length (drop from (fields line.now)) ≤ length store.old }
     ensures { store.new ≡ written_at first (map number_or_zero (drop from (fields line.now))) store.old }
 {
+    // By place: the proof loses what a zip with `iter_mut` writes.
     for (i, field) in line.split(|b| *b == TAB).skip(from).enumerate() {
         store[first + i] = read_number(field).unwrap_or(0);
     }
@@ -58,6 +59,7 @@ pub(crate) fn read_literal(field: &[u8]) -> Option<Form>
     }
 }
 
+#[tactic(auto, using(crate::proofs::Cuts::some_field), unfolding(crate::specs::Format::entry_says))]
 fn literal_line(line: &[u8]) -> Result<NodeLine, Reason>
     ensures { Heard kind.Literal (fields line.now) result }
 {
@@ -68,6 +70,7 @@ fn literal_line(line: &[u8]) -> Result<NodeLine, Reason>
     Ok(NodeLine { form, from: 2 })
 }
 
+#[tactic(auto, using(crate::proofs::Cuts::some_field), unfolding(crate::specs::Format::entry_says))]
 fn and_line(line: &[u8]) -> Result<NodeLine, Reason>
     ensures { Heard kind.And (fields line.now) result }
 {
@@ -83,6 +86,7 @@ fn and_line(line: &[u8]) -> Result<NodeLine, Reason>
     })
 }
 
+#[tactic(auto, using(crate::proofs::Cuts::some_field), unfolding(crate::specs::Format::entry_says))]
 fn fork_line(line: &[u8]) -> Result<NodeLine, Reason>
     ensures { Heard kind.Fork (fields line.now) result }
 {
@@ -99,6 +103,7 @@ fn fork_line(line: &[u8]) -> Result<NodeLine, Reason>
     })
 }
 
+#[tactic(auto, using(crate::proofs::Cuts::some_field))]
 fn leaf_line(line: &[u8], form: Form) -> Result<NodeLine, Reason>
     ensures { Answers (no_field (drop 1 (fields line.now)) (Ok (entry_of form []))) (fields line.now) result }
 {
@@ -109,6 +114,7 @@ fn leaf_line(line: &[u8], form: Form) -> Result<NodeLine, Reason>
 }
 
 /// A node line of a kind.
+#[tactic(auto, unfolding(crate::specs::Format::entry_says))]
 pub(crate) fn node_line(line_kind: Kind, line: &[u8]) -> Result<NodeLine, Reason>
     ensures { Heard line_kind (fields line.now) result }
 {

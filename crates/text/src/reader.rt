@@ -1,8 +1,8 @@
 //! The reader of a table file.
-ghost use Rattle.std.specs.Prelude.{◌≡◌, ◌+◌, ◌^◌, ◌<◌, ◌≤◌, true, false, map, length, drop, IfOk};
-ghost use Rattle.text.specs.Lines.{every, fields};
-ghost use Rattle.text.specs.Format.{section_at, all_read, fitting, listed, number_or_zero, file_says, overwritten, rooms_for, named_printable};
-ghost use Rattle.text.specs.Steps.{begun, state, says_in, says, next_says, Bounded, Steps, written_at};
+ghost use Rattle.std.specs.Prelude.{◌≡◌, ◌+◌, ◌^◌, ◌<◌, ◌≤◌, true, false, length, IfOk};
+ghost use Rattle.text.specs.Lines.{every};
+ghost use Rattle.text.specs.Format.{section_at, all_read, fitting, listed, nothing_yet, file_says, overwritten, rooms_for, named_printable};
+ghost use Rattle.text.specs.Steps.{sofar, says_in, says, next_says, Steps};
 ghost use Rattle.text.specs.declared.kind.Kind.TheVariants as kind;
 ghost use Rattle.text.specs.declared.kind.Section.TheVariants as section;
 
@@ -14,22 +14,22 @@ use crate::nodes::{node_line, write_numbers};
 use crate::progress::Progress;
 use crate::record::{Contents, Header, Node, Variables};
 
-impl Progress {
-    fn new() -> Progress
-        ensures { result ≡ begun }
+impl<'n, 'c> Progress<'n, 'c> {
+    /// Nothing has been read yet.
+    fn new(node_store: &'n mut [Node], child_store: &'c mut [u16]) -> Progress<'n, 'c>
+        ensures begins { sofar result ≡ nothing_yet }
+        ensures nodes { (result.node_store.ghost_name ≡ node_store.entry.ghost_name) × (result.node_store.now ≡ node_store.old) }
+        ensures children { (result.child_store.ghost_name ≡ child_store.entry.ghost_name) × (result.child_store.now ≡ child_store.old) }
     {
-        let header = Header {
-            variables: 0,
-            nodes: 0,
-            children: 0,
-        };
         Progress {
-            header,
+            header: Header::default(),
             variables: Variables::none(),
             nodes: 0,
             children: 0,
             line: 1,
             place: 0,
+            node_store,
+            child_store,
         }
     }
 
@@ -67,101 +67,81 @@ impl Progress {
     }
 
     /// The header line.
-    fn take_header(&mut self, line: &[u8], nodes: &[Node], children: &[u16]) -> Result<(), Reason>
-        requires bounded { Bounded (state self.old nodes.now children.now) }
+    fn take_header(&mut self, line: &[u8]) -> Result<(), Reason>
         requires first { self.old.line ≡ 1 }
         requires room { self.old.place + (length line.now + 1) ≤ 65536 }
-        ensures { Steps (says_in section.Header kind.Header line.now) (state self.old nodes.now children.now) (state self.new nodes.now children.now) result }
+        ensures { Steps (says_in section.Header kind.Header line.now) self.old self.new result }
     {
-        self.header = header_line(line, nodes.len(), children.len())?;
-        self.line += 1;
+        let header = header_line(line, self.node_store.len(), self.child_store.len())?;
         self.place += line.len() + 1;
+        self.line += 1;
+        self.header = header;
         Ok(())
     }
 
     /// A variable line.
-    fn take_variable(&mut self, line: &[u8], nodes: &[Node], children: &[u16]) -> Result<(), Reason>
-        requires bounded { Bounded (state self.old nodes.now children.now) }
+    fn take_variable(&mut self, line: &[u8]) -> Result<(), Reason>
         requires due { length (listed self.old.variables) < self.old.header.variables }
         requires room { self.old.place + (length line.now + 1) ≤ 65536 }
-        ensures { Steps (says_in section.Variables kind.Variable line.now) (state self.old nodes.now children.now) (state self.new nodes.now children.now) result }
+        ensures { Steps (says_in section.Variables kind.Variable line.now) self.old self.new result }
     {
         let variable = variable_line(line, &self.variables)?;
         self.variables.push(variable);
-        self.line += 1;
         self.place += line.len() + 1;
+        self.line += 1;
         Ok(())
     }
 
     /// A node line. The line is judged as a whole before anything is written.
-    fn take_node(
-        &mut self,
-        line_kind: Kind,
-        line: &[u8],
-        nodes: &mut [Node],
-        children: &mut [u16],
-    ) -> Result<(), Reason>
-        requires bounded { Bounded (state self.old nodes.old children.old) }
+    fn take_node(&mut self, line_kind: Kind, line: &[u8]) -> Result<(), Reason>
         requires due { self.old.nodes < self.old.header.nodes }
         requires room { self.old.place + (length line.now + 1) ≤ 65536 }
-        ensures { Steps (says_in section.Nodes line_kind line.now) (state self.old nodes.old children.old) (state self.new nodes.new children.new) result }
+        ensures { Steps (says_in section.Nodes line_kind line.now) self.old self.new result }
     {
         let said = node_line(line_kind, line)?;
         let count = field_count(line) - said.from;
         if !self.children_fit(count) {
             return Err(Reason::Children);
         }
-        write_numbers(line, said.from, children, self.children);
-        nodes[self.nodes] = Node {
+        write_numbers(line, said.from, self.child_store, self.children);
+        self.node_store[self.nodes] = Node {
             form: said.form,
             first: self.children as u16,
             count: count as u16,
         };
         self.nodes += 1;
         self.children += count;
-        self.line += 1;
         self.place += line.len() + 1;
+        self.line += 1;
         Ok(())
     }
 
     /// One line: the section and the line's kind together decide what it says.
-    fn take_line(
-        &mut self,
-        line: &[u8],
-        nodes: &mut [Node],
-        children: &mut [u16],
-    ) -> Result<(), Reason>
-        requires bounded { Bounded (state self.old nodes.old children.old) }
+    fn take_line(&mut self, line: &[u8]) -> Result<(), Reason>
         requires due { all_read self.old.header self.old.line (length (listed self.old.variables)) self.old.nodes ≡ false }
         requires room { self.old.place + (length line.now + 1) ≤ 65536 }
-        ensures { Steps (says line.now) (state self.old nodes.old children.old) (state self.new nodes.new children.new) result }
+        ensures { Steps (says line.now) self.old self.new result }
     {
         if !all_printable(line) {
             return Err(Reason::Line);
         }
         match (self.section(), line_kind(line)) {
-            (Section::Header, Kind::Header) => self.take_header(line, nodes, children),
-            (Section::Variables, Kind::Variable) => self.take_variable(line, nodes, children),
-            (Section::Nodes, kind) => self.take_node(kind, line, nodes, children),
+            (Section::Header, Kind::Header) => self.take_header(line),
+            (Section::Variables, Kind::Variable) => self.take_variable(line),
+            (Section::Nodes, kind) => self.take_node(kind, line),
             _ => Err(Reason::Line),
         }
     }
 
     /// The next line of a file, which has to have one more.
-    fn take_next(
-        &mut self,
-        file: &[u8],
-        nodes: &mut [Node],
-        children: &mut [u16],
-    ) -> Result<(), Reason>
-        requires bounded { Bounded (state self.old nodes.old children.old) }
+    fn take_next(&mut self, file: &[u8]) -> Result<(), Reason>
         requires due { all_read self.old.header self.old.line (length (listed self.old.variables)) self.old.nodes ≡ false }
         requires within { self.old.place ≤ length file.now }
         requires short { length file.now ≤ 65536 }
-        ensures { Steps (next_says file.now) (state self.old nodes.old children.old) (state self.new nodes.new children.new) result }
+        ensures { Steps (next_says file.now) self.old self.new result }
     {
         let line = first_line(&file[self.place..]).ok_or(Reason::Line)?;
-        self.take_line(line, nodes, children)
+        self.take_line(line)
     }
 }
 
@@ -176,11 +156,11 @@ pub fn read_table(file: &[u8], nodes: &mut [Node], children: &mut [u16]) -> Resu
     if file.len() < 1 || file.len() > 65536 {
         return Err(Fault::Length);
     }
-    let mut progress = Progress::new();
+    let mut progress = Progress::new(nodes, children);
     while !progress.is_complete() {
         let line = progress.line;
         progress
-            .take_next(file, nodes, children)
+            .take_next(file)
             .map_err(|reason| Fault::Line { reason, line })?;
     }
     Ok(Contents {

@@ -28,6 +28,7 @@ pub enum Role {
 }
 
 /// A variable's name: the first `length` bytes, with zeros behind them.
+// An array with a count: the engine has no heap.
 #[derive(Clone, Copy, Debug, PartialEq, Eq)]
 pub struct Name {
     pub bytes: [u8; 24],
@@ -35,6 +36,7 @@ pub struct Name {
     ghost fits: { length ≤ 24 },
 }
 
+/// A variable of the plant.
 #[derive(Clone, Copy, Debug, PartialEq, Eq)]
 pub struct Variable {
     pub role: Role,
@@ -42,6 +44,7 @@ pub struct Variable {
 }
 
 /// The variables 1 to `count`; variable i stands at place i - 1.
+// An array with a count: the engine has no heap.
 #[derive(Clone, Copy, Debug, PartialEq, Eq)]
 pub struct Variables {
     pub all: [Variable; 64],
@@ -50,7 +53,7 @@ pub struct Variables {
 }
 
 /// The counts that the first line gives.
-#[derive(Clone, Copy, Debug, PartialEq, Eq)]
+#[derive(Clone, Copy, Debug, Default, PartialEq, Eq)]
 pub struct Header {
     pub variables: u16,
     pub nodes: u16,

@@ -1,8 +1,7 @@
-use Rattle.std.proofs.Common.{get_or, sym, ap, ◌∙◌}
+use Rattle.std.proofs.Common.{get_or, sym}
 use Rattle.std.proofs.lemmas.List.{get_or_default}
 use Rattle.table.specs.Masks.{blank}
-use Rattle.passes.specs.Ways.{made}
-use Rattle.passes.proofs.Reading.{node_is, node_ranged, node_readable}
+use Rattle.passes.proofs.Reading.{node_ranged, node_readable}
 use Rattle.passes.proofs.query.Query.node_at.Goals as goal
 
 pub node-requires-clause-ranged : goal.node-requires-clause-ranged
@@ -16,12 +15,3 @@ node-requires-clause-readable g c =
     let t = c.args.self.now.table.now in
     let n = get_or t.nodes.now c.args.number blank in
     node_readable t c.args.number c.requires.node n (get_or_default t.nodes.now c.args.number blank n c.requires.node) c.args.parts.now.stride _ (sym c.requires.before)
-
-pub returns : goal.returns
-returns g c =
-    let t = c.args.self.now.table.now in
-    let p = c.args.parts.now in
-    let n = get_or t.nodes.now c.args.number blank in
-    c.node.ensures
-    ∙ sym (ap (made g.K.Figure.ring (g.W.Rule.way c.args.rule.now c.args.self.now) (g.W.Rule.child_in c.args.rule.now c.args.self.now p.stride p.places.now))
-    (node_is t c.args.number c.requires.node n (get_or_default t.nodes.now c.args.number blank n c.requires.node)))

@@ -1,22 +1,8 @@
-use Rattle.std.proofs.Common.{length, sym, refl, ◌∙◌, mul-one}
-use Rattle.std.proofs.lemmas.List.{length-map}
-use Rattle.table.specs.Circuit.{onward}
-use Rattle.table.specs.Nodes.{shape}
+use Rattle.std.proofs.Common.{length}
 use Rattle.table.specs.Whole.{circuit}
 use Rattle.passes.specs.Ways.{walked}
-use Rattle.passes.proofs.Passing.{passed_length, passed_more, passed_all}
+use Rattle.passes.proofs.Passing.{passed_more, passed_all}
 use Rattle.passes.proofs.query.Query.pass.Goals as goal
-
-pub loop-number-init : goal.loop-number-init
-unfolding onward
-loop-number-init g c = let t = c.args.self.now.table.now in
-    record { values = refl; many = sym (length-map t.nodes.now (shape t.children.now)) }
-
-pub node_at-requires-clause-before : goal.node_at-requires-clause-before
-node_at-requires-clause-before g c =
-    let t = c.args.self.now.table.now in
-    passed_length (walked g.K.Figure.ring (g.W.Rule.way c.args.rule.now c.args.self.now) (g.W.Rule.child_in c.args.rule.now c.args.self.now 1)) (circuit t) c.args.work.now
-    (length t.nodes.now) c.loop-number.number c.loop-number.work c.loop-number.invariant c.loop-number-test.true c.requires.room c.loop-number.auto.work ∙ sym (mul-one c.loop-number.number)
 
 pub loop-number-preserved : goal.loop-number-preserved
 loop-number-preserved g c =

@@ -1,12 +1,13 @@
-use Rattle.std.proofs.Common.{◌≡◌, drop, Some, None, Err, sym, refl, ap, ◌∙◌, subst, arith}
+use Rattle.std.proofs.Common.{◌≡◌, drop, Some, None, Err, sym, ap, ◌∙◌, subst, arith}
 use Rattle.std.specs.Option.{ok_or}
 use Rattle.std.specs.Result.{result_ok}
 use Rattle.std.proofs.lemmas.List.{take_rest, length-drop}
 use Rattle.std.proofs.lemmas.Result.{err_from_is_err_and}
 use Rattle.text.specs.declared.fault.Reason.TheVariants as reason
 use Rattle.text.specs.Lines.{lines, BeginsWithLine}
-use Rattle.text.specs.Steps.{state, sofar, rooms_of, first_says, Steps}
+use Rattle.text.specs.Steps.{sofar, rooms_of, says, first_says, next_says}
 use Rattle.text.proofs.Limits.{same_err}
+use Rattle.text.proofs.Sections.{refused_by, said_by}
 use Rattle.text.proofs.progress.Progress.take_next.Goals as goal
 use Rattle.text.proofs.progress.Progress.take_next.Goals.{In_ok-line}
 
@@ -20,19 +21,19 @@ begins c =
 pub take_line-requires : goal.take_line-requires
 take_line-requires c =
     let b = begins (goal.at.take_line-requires c).In_ok-line in
-    record { bounded = c.requires.bounded; due = c.requires.due; room = omega (arith, b.within, length-drop c.args.self.now.place c.args.file.now, c.requires.short, c.requires.within) }
+    record { due = c.requires.due; room = omega (arith, b.within, length-drop c.args.self.now.place c.args.file.now, c.requires.short, c.requires.within) }
 
 pub returns-in_err-line : goal.returns-in_err-line
 returns-in_err-line c =
-    let s = state c.args.self.now c.args.nodes.now c.args.children.now in
+    let s = c.args.self.now in
     let p = err_from_is_err_and c.from_residual.result c.from_residual.ensures.1 in
     let missing : c.first_line.result ≡ None = c.ok_or.ensures.ok_part ∙ ap result_ok c.in_err-line.was in
     let none = rw missing at c.first_line.ensures in
     let why = same_err {A = _} _ _ (sym c.in_err-line.was ∙ c.ok_or.ensures.value ∙ ap (λ o. ok_or o reason.Line) missing) in
-    rw (p.1, p.2) (ap (first_says (rooms_of s) (sofar s)) (ap lines (sym (take_rest c.args.file.now c.args.self.now.place)) ∙ none) ∙ ap Err (sym why), refl, refl)
+    rw (p.1, p.2) (refused_by (next_says c.args.file.now) s _ (ap (first_says (rooms_of s) (sofar s)) (ap lines (sym (take_rest c.args.file.now c.args.self.now.place)) ∙ none) ∙ ap Err (sym why)))
 
 pub returns : goal.returns
 returns c =
-    let s = state c.args.self.now c.args.nodes.now c.args.children.now in
+    let s = c.args.self.now in
     let b = begins (goal.at.returns c).In_ok-line in
-    subst (λ said. Steps (λ _. said) s (state c.take_line.new.self c.take_line.new.nodes c.take_line.new.children) c.take_line.result) (sym (ap (first_says (rooms_of s) (sofar s)) b.lines_are)) c.take_line.ensures
+    said_by (says c.in_ok-line.line.now) (next_says c.args.file.now) s _ c.take_line.result (sym (ap (first_says (rooms_of s) (sofar s)) b.lines_are)) c.take_line.ensures

@@ -1,39 +1,51 @@
 use Rattle.std.proofs.Common.{◌≡◌, ◌≤◌, [], ◌∷◌, ◌++◌, length, Ok, sym, refl, ap, ◌∙◌, arith}
 use Rattle.std.proofs.lemmas.List.{length_push}
 use Rattle.text.specs.Format.{then, with_variable, listed, variables_of}
-use Rattle.text.specs.Steps.{state, sofar}
+use Rattle.text.specs.Steps.{sofar}
 use Rattle.text.proofs.Names.{listed_variables_of}
 use Rattle.text.proofs.progress.Progress.take_variable.Goals as goal
+use Rattle.text.proofs.progress.Progress.take_variable.Goals.{After-push}
+
+-- the variables, with one more
+lists : (c : After-push) → (c.push.new.self ≡ variables_of (listed c.push.new.self)) × (listed c.push.new.self ≡ listed c.args.self.now.variables ++ c.in_ok-variable.variable ∷ [])
+lists c =
+    let before = listed c.args.self.now.variables in
+    let v = c.in_ok-variable.variable in
+    let is : c.push.new.self ≡ variables_of (before ++ v ∷ []) = c.push.ensures before c.args.self.now.variables_are in
+    let few : length (before ++ v ∷ []) ≤ 64 = omega (arith, length_push before v, c.requires.due, c.args.self.now.limit_variables) in
+    let same : listed c.push.new.self ≡ before ++ v ∷ [] = ap listed is ∙ listed_variables_of (before ++ v ∷ []) few in
+    (is ∙ ap variables_of (sym same), same)
+
+pub invariant_of-self : goal.invariant_of-self
+invariant_of-self c =
+    let s = c.args.self.now in
+    record {
+      first_line = omega arith;
+      start = λ e. absurd (omega (arith, s.first_line));
+      variables_are = (lists (goal.at.invariant_of-self c).After-push).0;
+      limit_variables = s.limit_variables;
+      limit_children = s.limit_children;
+      room_nodes = s.room_nodes;
+      room_children = s.room_children;
+      nodes_within = s.nodes_within;
+      children_within = s.children_within;
+      lines = omega (arith, s.lines);
+      places = c.requires.room;
+    }
 
 pub returns : goal.returns
 returns c =
-    let s = state c.args.self.now c.args.nodes.now c.args.children.now in
+    let s = c.args.self.now in
     let size = length c.args.line.now in
-    let says = sym c.variable_line.ensures ∙ c.in_ok-variable.was in
-    let old = c.requires.bounded in
-    let v = c.in_ok-variable.variable in
-    let before = listed c.args.self.now.variables in
-    let after = c.push.new.self in
-    let is : after ≡ variables_of (before ++ v ∷ []) = c.push.ensures before old.variables_are in
-    let few : length (before ++ v ∷ []) ≤ 64 = omega (arith, length_push before v, c.requires.due, old.limit_variables) in
-    let lists : listed after ≡ before ++ v ∷ [] = ap listed is ∙ listed_variables_of (before ++ v ∷ []) few in
-    let next = with_variable (sofar s) size v in
+    let next = with_variable (sofar s) size c.in_ok-variable.variable in
+    let same = (lists (goal.at.returns c).After-push).1 in
     record {
-      says = ap (λ x. then x (λ w. Ok (with_variable (sofar s) size w))) says
-          ∙ (λ i. Ok (record { header = next.header; variables = sym lists i; nodes = next.nodes; children = next.children; line = next.line; place = next.place }));
-      bounded = record {
-        first_line = omega arith;
-        start = λ e. absurd (omega (arith, old.first_line, e));
-        variables_are = is ∙ ap variables_of (sym lists);
-        variables_few = omega (arith, few, ap length lists);
-        limit_variables = old.limit_variables;
-        limit_children = old.limit_children;
-        room_nodes = old.room_nodes;
-        room_children = old.room_children;
-        nodes_within = old.nodes_within;
-        children_within = old.children_within;
-        lines = omega (arith, old.lines);
-        places = c.requires.room;
+      moves = record {
+        says = ap (λ x. then x (λ w. Ok (with_variable (sofar s) size w))) (sym c.variable_line.ensures ∙ c.in_ok-variable.was)
+            ∙ (λ i. Ok (record { header = next.header; variables = sym same i; nodes = next.nodes; children = next.children; line = next.line; place = next.place }));
+        nodes = refl;
+        children = refl;
+        on = (omega arith, omega arith);
       };
-      untouched = record { nodes = refl; children = refl; on = (omega arith, omega arith) };
+      stores = record { nodes = refl; children = refl; nodes_long = refl; children_long = refl };
     }
