@@ -11,9 +11,8 @@ use measure::{holds_of, peak_sheet, repeat_bound, tally_sheet};
 use plant::Plant;
 use std::time::Instant;
 use std::{env, io};
-use table::check::check;
 use table::table::Table;
-use text::refusal::Refusal;
+use text::refusal::{Refusal, RefusalLine};
 
 /// How many options are held in the runs.
 const HELD: &[u16] = &[0, 10];
@@ -60,12 +59,9 @@ fn main(rt: HostRuntime) -> io::Result<()> {
     let plant = Plant::new(rt.alloc())?;
     let nodes = plant.nodes.as_slice();
     let children = plant.children.as_slice();
-    let table = match check(nodes, children, &plant.variables) {
-        Ok(sets) => Table::new(nodes, children, plant.variables, sets),
-        Err(fault) => {
-            println!(rt; "X\t{}\t{}", fault.number(), fault.place())?;
-            return Ok(());
-        }
+    let table = match Table::check(nodes, children, plant.variables) {
+        Ok(table) => table,
+        Err(fault) => return print!(rt; "{}", RefusalLine(fault)),
     };
     println!(rt; "nodes\t{}", nodes.len())?;
     println!(rt; "child links\t{}", children.len())?;

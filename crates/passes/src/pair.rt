@@ -113,6 +113,7 @@ impl<K: Figure> Step<'_, '_, '_, K> {
         requires { length part.old ≡ self.now.parts.stride }
         ensures { drop 1 part.new ≡ row_in K.ring (roles self.now.query.now.table.now) self.now.query.now.holds.now.entries (circuit self.now.query.now.table.now) self.now.parts.stride self.now.parts.places.now self.now.node self.now.options.now }
     {
+        // By index: once a loan by `chunks_exact_mut` is over, a proof knows none of the places.
         for (j, &variable) in self.options.iter().enumerate() {
             let on_place = 2 * j + 1;
             let off_place = 2 * j + 2;
@@ -216,6 +217,7 @@ impl<K: Figure> Query<'_, K> {
         ensures { work.new ≡ laid_out K.ring (roles self.now.table.now) self.now.sheet.now (pairs K.ring (roles self.now.table.now) self.now.sheet.now (circuit self.now.table.now) self.now.holds.now.entries) ++ drop (length (circuit self.now.table.now) * (2 * length options.now + 1)) work.old }
     {
         let stride = 2 * options.len() + 1;
+        // By number: each step is written behind the parts of the nodes before it.
         for node in 0..self.table.nodes.len() {
             let (places, rest) = work.split_at_mut(node * stride);
             self.write_part(options, node, places, &mut rest[..stride]);

@@ -51,6 +51,7 @@ impl<K: Figure> Query<'_, K> {
         requires inside { every (inside (length parts.now.places.now) parts.now.stride) children.now ≡ true }
         ensures { result ≡ times K.ring (map (W.child_in rule.now self.now parts.now.stride parts.now.places.now) children.now) }
     {
+        // A loop: the closure of a fold can't be told that each child may be read.
         let mut all = K::one();
         for child in children {
             all = all.times(rule.child(self, parts, *child));
@@ -101,6 +102,7 @@ impl<K: Figure> Query<'_, K> {
         requires room { length (circuit self.now.table.now) ≤ length work.old }
         ensures { work.new ≡ upward (walked K.ring (W.way rule.now self.now) (W.child_in rule.now self.now 1)) (circuit self.now.table.now) ++ drop (length (circuit self.now.table.now)) work.old }
     {
+        // By number: each step is written behind the values of the nodes before it.
         for number in 0..self.table.nodes.len() {
             let parts = Parts {
                 places: &work[..number],

@@ -4,7 +4,6 @@ use kinds::figure::Figure;
 use passes::holds::Holds;
 use passes::query::Query;
 use std::test::Fail;
-use table::check::check as check_table;
 use table::table::Table;
 
 /// The figure of the selection held, the plain bound and the bound.
@@ -56,9 +55,6 @@ pub(crate) fn ask<K: Figure>(
 ) -> Result<Answers<K>, Fail> {
     let nodes = stores.nodes.as_slice();
     let children = stores.children.as_slice();
-    let Ok(sets) = check_table(nodes, children, &stores.variables) else {
-        return Err(Fail::new("refused"));
-    };
-    let table = Table::new(nodes, children, stores.variables, sets);
+    let table = Table::check(nodes, children, stores.variables).map_err(|_| Fail::new("refused"))?;
     run(&table, sheet, holds, work).ok_or_else(|| Fail::new("a store is too short"))
 }
