@@ -8,6 +8,10 @@ use text::fault::Fault;
 use text::reader::read_table;
 use text::record::{Form, Node};
 
+/// How many bytes of a file are read: one more than it may have, so that one that is too long is seen
+/// to be.
+pub const MOST_READ: u64 = 65537;
+
 impl Room {
     /// Room for the largest table of the limits.
     pub fn largest() -> Room

@@ -1,8 +1,8 @@
 //! What the three passes answer.
-use plants::stores::Stores;
 use kinds::figure::Figure;
 use passes::holds::Holds;
 use passes::query::Query;
+use plants::stores::Stores;
 use std::test::Fail;
 use table::table::Table;
 

@@ -1,8 +1,8 @@
 //! Figures and bounds worked out by hand.
 use crate::asking::{ask, holds_of};
+use kinds::value::{Load, Peak, Tally};
 use plants::files::{PLANT, file};
 use plants::stores::Stores;
-use kinds::value::{Load, Peak, Tally};
 use std::alloc::Global;
 use std::iter;
 use std::process::Abort;

@@ -1,10 +1,10 @@
 //! The answers against all worlds, one by one.
 use crate::asking::ask;
 use crate::figures::{Due, MARK, check_tallies, tallies};
-use plants::files::file;
-use plants::stores::Stores;
 use kinds::value::Tally;
 use passes::holds::{Entry, Holds};
+use plants::files::file;
+use plants::stores::Stores;
 use std::alloc::Global;
 use std::test::Fail;
 use text::record::{Form, Node};

@@ -3,11 +3,9 @@
 
 mod report;
 
+use parts::read::MOST_READ;
 use std::io;
 use std::io::Read;
-
-/// One byte more than a file may have, so that a file that is too long is seen to be.
-const MOST_READ: u64 = 65537;
 
 fn main(rt: HostRuntime) -> io::Result<()> {
     let mut file = Vec::new(rt.alloc());

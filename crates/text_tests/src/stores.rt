@@ -92,6 +92,7 @@ impl Stores {
         }
     }
 
+    // A list and how much of it: the cases share one list, and leave a longer or shorter part of it.
     /// A file meets this refusal or none, and leaves so many of these nodes and children.
     pub(crate) fn check_read(
         &mut self,
