@@ -87,6 +87,7 @@ fn figures_of(stores: &Stores, heap: Global) -> Result<Vec<u64>, Fail> {
 }
 
 // Holds by a number below 81: a digit to base 3 for each option, 0 free, 1 on, 2 off.
+// It stands in two test crates: in a library it would want a contract longer than itself.
 fn holds_at(number: u64) -> Holds {
     let mut holds = Holds::new();
     let mut rest = number;

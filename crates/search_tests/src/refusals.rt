@@ -1,6 +1,7 @@
 //! Refused calls on plant K.
-use crate::steps::{Held, MARK, holds_of, run_steps};
+use crate::steps::{Held, MARK, Study, holds_of, table_of};
 use kinds::written::Written;
+use passes::sheet::Sheet;
 use plants::files::PLANT;
 use plants::stores::Stores;
 use search::number_order::NumberOrder;
@@ -166,17 +167,16 @@ fn check_case(
     for step in steps {
         let mut sheet = vec![in heap; MARK; figures]?;
         let mut work = vec![in heap; MARK; places]?;
-        run_steps(
-            rt,
-            plant,
-            &NumberOrder,
-            &mut holds_of(held),
-            sheet.as_mut_slice(),
-            work.as_mut_slice(),
-            &[*step],
-            heap,
-            case,
-        )?;
+        let mut study = Study {
+            table: table_of(plant, case)?,
+            order: &NumberOrder,
+            holds: holds_of(held),
+            sheet: Sheet {
+                figures: sheet.as_mut_slice(),
+            },
+            work: work.as_mut_slice(),
+        };
+        study.run(rt, &[*step], heap, case)?;
     }
     Ok(())
 }

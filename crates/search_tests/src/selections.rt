@@ -1,6 +1,6 @@
 //! Select against all selections, one by one.
 use crate::shown::show_holds;
-use crate::steps::{Step, run_steps, table_of};
+use crate::steps::{Step, Study, table_of};
 use kinds::figure::Figure;
 use kinds::value::{Peak, Tally};
 use kinds::written::Written;
@@ -31,6 +31,7 @@ const PART_IMPOSSIBLE: &str = "99 99 99 99 99 99 99 99 300 - 200 500 110 40 60 0
 
 // Holds go by a number below 81: a digit to base 3 for each option, 0 free, 1 on, 2 off. The lowest
 // digit is that of option 1.
+// It stands in two test crates: in a library it would want a contract longer than itself.
 fn holds_at(number: u64) -> Holds {
     let mut holds = Holds::new();
     let mut rest = number;
@@ -68,23 +69,6 @@ fn sheet_of<K: Written>(text: &str, heap: Global) -> Result<Vec<K>, Fail> {
 // A selection of the options, and its figure.
 type Selected<K> = (Holds, K);
 
-// Every selection: figure refuses the holds that leave an option free.
-fn selections_of<K: Written>(
-    table: &Table,
-    sheet: &Sheet<K>,
-    work: &mut [K],
-    heap: Global,
-) -> Result<Vec<Selected<K>>, Fail> {
-    let mut selections = Vec::new(heap);
-    for number in 0..81u64 {
-        let holds = holds_at(number);
-        if let Ok(own) = figure(table, &holds, sheet, work) {
-            selections.push((holds, own))?;
-        }
-    }
-    Ok(selections)
-}
-
 // The highest figure of the selections that keep the holds, or zero.
 fn highest<K: Written>(held: &Holds, selections: &[Selected<K>]) -> K {
     let mut best = K::zero();
@@ -103,41 +87,84 @@ struct Walk<K> {
     openings: u64,
 }
 
-// Opens a branch, on before off, the lowest free option first.
-fn open<K: Written>(
-    table: &Table,
-    sheet: &Sheet<K>,
-    work: &mut [K],
-    holds: &Holds,
-    levels: u8,
-    before: Walk<K>,
-) -> Option<Walk<K>> {
-    let openings = before.openings.wrapping_add(1);
-    let best = before.best;
-    let reach = bound(table, holds, sheet, work).ok()?;
-    if reach.no_higher(best) {
-        return Some(Walk { best, openings });
+// A table with a sheet, and the places to work in.
+#[derive(Drop)]
+struct Plant<'a, K> {
+    table: Table<'a>,
+    sheet: Sheet<'a, K>,
+    work: &'a mut [K],
+}
+
+impl<K: Written> Plant<'_, K> {
+    // Every selection: figure refuses the holds that leave an option free.
+    fn selections(&mut self, heap: Global) -> Result<Vec<Selected<K>>, Fail> {
+        let mut selections = Vec::new(heap);
+        for number in 0..81u64 {
+            let holds = holds_at(number);
+            if let Ok(own) = figure(&self.table, &holds, &self.sheet, self.work) {
+                selections.push((holds, own))?;
+            }
+        }
+        Ok(selections)
     }
-    let Some(variable) = lowest_free(holds) else {
-        let own = figure(table, holds, sheet, work).ok()?;
-        let best = if own.no_higher(best) { best } else { own };
-        return Some(Walk { best, openings });
-    };
-    if levels == 0 {
-        return None;
+
+    // Opens a branch, on before off, the lowest free option first.
+    fn open(&mut self, holds: &Holds, levels: u8, before: Walk<K>) -> Option<Walk<K>> {
+        let openings = before.openings.wrapping_add(1);
+        let best = before.best;
+        let reach = bound(&self.table, holds, &self.sheet, self.work).ok()?;
+        if reach.no_higher(best) {
+            return Some(Walk { best, openings });
+        }
+        let Some(variable) = lowest_free(holds) else {
+            let own = figure(&self.table, holds, &self.sheet, self.work).ok()?;
+            let best = if own.no_higher(best) { best } else { own };
+            return Some(Walk { best, openings });
+        };
+        if levels == 0 {
+            return None;
+        }
+        let mut branch = *holds;
+        branch.hold(variable, true);
+        let on = self.open(&branch, levels - 1, Walk { best, openings })?;
+        branch.hold(variable, false);
+        self.open(&branch, levels - 1, on)
     }
-    let mut branch = *holds;
-    branch.hold(variable, true);
-    let on = open(
-        table,
-        sheet,
-        work,
-        &branch,
-        levels - 1,
-        Walk { best, openings },
-    )?;
-    branch.hold(variable, false);
-    open(table, sheet, work, &branch, levels - 1, on)
+
+    // Select by both orders.
+    fn check_holds(
+        &mut self,
+        rt: &impl Abort,
+        held: &Holds,
+        selections: &[Selected<K>],
+        heap: Global,
+        case: &impl Display,
+    ) -> Result<(), Fail> {
+        let Ok(lean) = select(&self.table, held, &self.sheet, self.work, &StrongestLean) else {
+            return Err(Fail::new(format_args!("select is refused: {case}")));
+        };
+        check_found(
+            rt,
+            lean,
+            held,
+            selections,
+            heap,
+            &format_args!("strongest lean: {case}"),
+        )?;
+        let Ok(found) = select(&self.table, held, &self.sheet, self.work, &NumberOrder) else {
+            return Err(Fail::new(format_args!("select is refused: {case}")));
+        };
+        check_found(rt, found, held, selections, heap, case)?;
+        let start = Walk {
+            best: K::zero(),
+            openings: 0,
+        };
+        let Some(end) = self.open(held, 4, start) else {
+            return Err(Fail::new(format_args!("the walk is refused: {case}")));
+        };
+        assert_eq!(rt; found.openings, end.openings, "openings: {case}");
+        Ok(())
+    }
 }
 
 fn check_alike<K: Written>(
@@ -196,43 +223,6 @@ fn check_found<K: Written>(
     Ok(())
 }
 
-// Select by both orders.
-fn check_holds<K: Written>(
-    rt: &impl Abort,
-    table: &Table,
-    sheet: &Sheet<K>,
-    work: &mut [K],
-    held: &Holds,
-    selections: &[Selected<K>],
-    heap: Global,
-    case: &impl Display,
-) -> Result<(), Fail> {
-    let Ok(lean) = select(table, held, sheet, work, &StrongestLean) else {
-        return Err(Fail::new(format_args!("select is refused: {case}")));
-    };
-    check_found(
-        rt,
-        lean,
-        held,
-        selections,
-        heap,
-        &format_args!("strongest lean: {case}"),
-    )?;
-    let Ok(found) = select(table, held, sheet, work, &NumberOrder) else {
-        return Err(Fail::new(format_args!("select is refused: {case}")));
-    };
-    check_found(rt, found, held, selections, heap, case)?;
-    let start = Walk {
-        best: K::zero(),
-        openings: 0,
-    };
-    let Some(end) = open(table, sheet, work, held, 4, start) else {
-        return Err(Fail::new(format_args!("the walk is refused: {case}")));
-    };
-    assert_eq!(rt; found.openings, end.openings, "openings: {case}");
-    Ok(())
-}
-
 // Select on a sheet, for all 81 ways to hold.
 fn check_sheet<K: Written + Clone>(
     rt: &impl Abort,
@@ -240,19 +230,19 @@ fn check_sheet<K: Written + Clone>(
     text: &str,
     heap: Global,
 ) -> Result<(), Fail> {
-    let table = table_of(stores, &text)?;
     let mut weights = sheet_of::<K>(text, heap)?;
-    let sheet = Sheet {
-        figures: weights.as_mut_slice(),
-    };
     let mut work = vec![in heap; K::zero(); 297]?;
-    let selections = selections_of(&table, &sheet, work.as_mut_slice(), heap)?;
+    let mut plant = Plant {
+        table: table_of(stores, &text)?,
+        sheet: Sheet {
+            figures: weights.as_mut_slice(),
+        },
+        work: work.as_mut_slice(),
+    };
+    let selections = plant.selections(heap)?;
     for number in 0..81u64 {
-        check_holds(
+        plant.check_holds(
             rt,
-            &table,
-            &sheet,
-            work.as_mut_slice(),
             &holds_at(number),
             selections.as_slice(),
             heap,
@@ -294,26 +284,24 @@ fn orders(rt: HostRuntime) -> Result<(), Fail> {
     let stores = Stores::read(text.as_str(), heap)?;
     let mut sheet = sheet_of::<Tally>(TALLIES, heap)?;
     let mut work = vec![in heap; Tally { count: 0 }; 297]?;
-    run_steps(
-        &rt,
-        &stores,
-        &NumberOrder,
-        &mut Holds::new(),
-        sheet.as_mut_slice(),
-        work.as_mut_slice(),
-        BY_NUMBER,
-        heap,
-        &"number order",
-    )?;
-    run_steps(
-        &rt,
-        &stores,
-        &StrongestLean,
-        &mut Holds::new(),
-        sheet.as_mut_slice(),
-        work.as_mut_slice(),
-        BY_LEAN,
-        heap,
-        &"strongest lean",
-    )
+    let mut study = Study {
+        table: table_of(&stores, &"number order")?,
+        order: &NumberOrder,
+        holds: Holds::new(),
+        sheet: Sheet {
+            figures: sheet.as_mut_slice(),
+        },
+        work: work.as_mut_slice(),
+    };
+    study.run(&rt, BY_NUMBER, heap, &"number order")?;
+    let mut study = Study {
+        table: table_of(&stores, &"strongest lean")?,
+        order: &StrongestLean,
+        holds: Holds::new(),
+        sheet: Sheet {
+            figures: sheet.as_mut_slice(),
+        },
+        work: work.as_mut_slice(),
+    };
+    study.run(&rt, BY_LEAN, heap, &"strongest lean")
 }
