@@ -30,15 +30,15 @@ impl<K: Figure> Rule<K> for Counting {
         }
     }
 
-    fn truth(&self, query: &Query<K>) -> K {
+    fn truth(&self, _query: &Query<K>) -> K {
         K::one()
     }
 
-    fn join(&self, query: &Query<K>, variable: u16, on: K, off: K) -> K {
+    fn join(&self, _query: &Query<K>, _variable: u16, on: K, off: K) -> K {
         on.plus(off)
     }
 
-    fn child(&self, query: &Query<K>, parts: &Parts<K>, node: u16) -> K {
+    fn child(&self, _query: &Query<K>, parts: &Parts<K>, node: u16) -> K {
         parts.value(node)
     }
 }

@@ -35,11 +35,11 @@ impl<K: Figure> Rule<K> for Side {
 
     ghost fits = { λ s stride. s.place < stride };
 
-    fn literal(&self, query: &Query<K>, variable: u16, on: bool) -> K {
+    fn literal(&self, _query: &Query<K>, _variable: u16, on: bool) -> K {
         if self.on == on { K::one() } else { K::zero() }
     }
 
-    fn truth(&self, query: &Query<K>) -> K {
+    fn truth(&self, _query: &Query<K>) -> K {
         K::zero()
     }
 
@@ -143,6 +143,7 @@ impl<K: Figure> Step<'_, '_, '_, K> {
         requires { length row.now ≡ 2 * length self.now.options.now }
         ensures { result ≡ value_by K.ring (roles self.now.query.now.table.now) self.now.query.now.sheet.now self.now.query.now.holds.now.entries (circuit self.now.query.now.table.now) self.now.parts.stride self.now.parts.places.now row.now self.now.node self.now.options.now }
     {
+        // A match: the closure of an `unwrap_or_else` needs a contract of its own.
         match self.least(row) {
             Some(least) => least,
             None => self.query.node_at(&Plain, &self.parts, self.node),

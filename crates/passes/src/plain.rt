@@ -30,7 +30,7 @@ impl<K: Figure> Rule<K> for Plain {
         }
     }
 
-    fn truth(&self, query: &Query<K>) -> K {
+    fn truth(&self, _query: &Query<K>) -> K {
         K::one()
     }
 
@@ -38,7 +38,7 @@ impl<K: Figure> Rule<K> for Plain {
         query.join(variable, on, off)
     }
 
-    fn child(&self, query: &Query<K>, parts: &Parts<K>, node: u16) -> K {
+    fn child(&self, _query: &Query<K>, parts: &Parts<K>, node: u16) -> K {
         parts.value(node)
     }
 }
