@@ -18,6 +18,7 @@ pub struct Query<'a, K> {
     ghost fits: { 2 * length (roles table.now) ≤ length sheet.now },
 }
 
+// A work table is no part of a query: it is lent to one pass, which asks for its own room in it.
 impl<K: Figure> Query<'_, K> {
     /// A variable's on (or off) weight.
     pub(crate) fn weight(&self, variable: u16, on: bool) -> K

@@ -5,6 +5,8 @@ ghost use Rattle.passes.specs.Steps.{place};
 
 use kinds::figure::Figure;
 
+// That a variable's number is above 0 stands in several contracts: files and calls give plain numbers,
+// and a type of its own would be made and opened at every use.
 /// Where a variable's on (or off) weight stands.
 pub(crate) fn place_of(variable: u16, on: bool) -> usize
     requires { 0 < variable }
