@@ -1,10 +1,13 @@
 //! What the three passes answer.
 use kinds::figure::Figure;
+use parts::stores::Room;
 use passes::holds::Holds;
 use passes::query::Query;
 use plants::stores::Stores;
+use std::alloc::Global;
 use std::test::Fail;
 use table::table::Table;
+use text::record::{Form, Node};
 
 /// The figure of the selection held, the plain bound and the bound.
 #[derive(Clone, Copy, PartialEq, Eq, Debug)]
@@ -29,13 +32,18 @@ pub(crate) fn holds_of(letters: &str) -> Holds {
 
 // The pair pass comes last, so its work table stays. None where a store is too short.
 fn run<K: Figure>(table: &Table, sheet: &[K], holds: &Holds, work: &mut [K]) -> Option<Answers<K>> {
-    let sheet = sheet.get(..2 * table.variables.count as usize)?;
+    if sheet.len() < 2 * table.variables.as_slice().len() {
+        return None;
+    }
     let query = Query {
         table,
         sheet,
         holds,
     };
-    let work = work.get_mut(..query.pair_room())?;
+    // All of it is lent: what the passes do not write is looked at afterwards.
+    if work.len() < query.pair_room() {
+        return None;
+    }
     let figure = query.count_figure(work);
     let plain = query.plain_bound(work);
     let bound = query.pair_bound(work);
@@ -44,6 +52,23 @@ fn run<K: Figure>(table: &Table, sheet: &[K], holds: &Holds, work: &mut [K]) -> 
         plain,
         bound,
     })
+}
+
+/// Stores for small tables.
+const SMALL: Room = Room {
+    nodes: 64,
+    children: 64,
+    node: Node {
+        form: Form::And,
+        first: 0,
+        count: 0,
+    },
+    child: 0,
+};
+
+/// A file's parts, from small stores.
+pub(crate) fn read(file: &str, heap: Global) -> Result<Stores, Fail> {
+    Stores::read_into(file, &SMALL, heap)
 }
 
 /// What the passes answer for the table of these parts.

@@ -1,5 +1,5 @@
 //! Figures and bounds worked out by hand.
-use crate::asking::{ask, holds_of};
+use crate::asking::{ask, holds_of, read};
 use kinds::value::{Load, Peak, Tally};
 use plants::files::{PLANT, file};
 use plants::stores::Stores;
@@ -74,7 +74,7 @@ const HOT_DAY_WORK: &[&[u64]] = &[
 
 #[test]
 fn plant(rt: HostRuntime) -> Result<(), Fail> {
-    let stores = Stores::read(PLANT, rt.alloc())?;
+    let stores = read(PLANT, rt.alloc())?;
     for due in HOT_DAY_DUE {
         check_tallies(&rt, &stores, HOT_DAY, due, rt.alloc())?;
     }
@@ -94,19 +94,12 @@ fn plant(rt: HostRuntime) -> Result<(), Fail> {
     Ok(())
 }
 
-fn watts(peak: Peak) -> Option<u32> {
-    match peak {
-        Peak::Impossible => None,
-        Peak::Load(load) => Some(load.watts),
-    }
-}
-
 // Holds, and the load that all three answers are.
 const LOADS: &[(&str, u32)] = &[("-", 9000), ("1", 4000), ("0", 9000)];
 
 #[test]
 fn loads(rt: HostRuntime) -> Result<(), Fail> {
-    let stores = Stores::read(PLANT, rt.alloc())?;
+    let stores = read(PLANT, rt.alloc())?;
     let none = Peak::Impossible;
     let hot = Peak::Load(Load { watts: 9000 });
     let mild = Peak::Load(Load { watts: 4000 });
@@ -119,7 +112,12 @@ fn loads(rt: HostRuntime) -> Result<(), Fail> {
             &mut work,
         )?;
         for peak in [answers.figure, answers.plain, answers.bound] {
-            assert_eq!(rt; watts(peak), Some(*due), "holds {}", *letters);
+            assert_eq!(rt;
+                peak,
+                Peak::Load(Load { watts: *due }),
+                "holds {}",
+                *letters
+            );
         }
     }
     Ok(())
@@ -135,7 +133,7 @@ const CAPPED: Due = ("-", CAP, CAP, CAP);
 #[test]
 fn capped(rt: HostRuntime) -> Result<(), Fail> {
     let text = file("R", "L 1/L -1/O 1 0 1", rt.alloc())?;
-    let stores = Stores::read(text.as_str(), rt.alloc())?;
+    let stores = read(text.as_str(), rt.alloc())?;
     check_tallies(
         &rt,
         &stores,

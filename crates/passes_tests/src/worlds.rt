@@ -1,21 +1,13 @@
 //! The answers against all worlds, one by one.
-use crate::asking::ask;
+use crate::asking::{ask, read};
 use crate::figures::{Due, MARK, check_tallies, tallies};
 use kinds::value::Tally;
 use passes::holds::{Entry, Holds};
-use plants::files::file;
+use plants::files::{BLOCK_ROLES, BLOCKS, file};
 use plants::stores::Stores;
 use std::alloc::Global;
 use std::test::Fail;
 use text::record::{Form, Node};
-
-// Two blocks under an and: options 1 and 2 with chances 5 and 6, options 3 and 4 with 7 and 8.
-const BLOCKS: &str = "\
-L 5/L -5/L 6/L -6/O 6 2 3/L 1/L -1/L 2/L -2/\
-A 0 6 4/A 5 2/A 6 7 3/O 1 10 11/A 1 12/O 5 9 13/\
-L 7/L -7/L 8/L -8/L 3/L -3/L 4/L -4/\
-A 17 19/A 18 20 21/O 8 23 24/A 15 25/A 17 22/A 18 21/O 8 27 28/A 16 29/O 7 26 30/\
-A 14 31";
 
 // The sheet: for each variable, by rising number, its on and its off weight. No pass reads those of
 // the options.
@@ -124,8 +116,8 @@ fn kept_by(holds: &Holds, figures: &[u64], heap: Global) -> Result<Vec<u64>, Fai
 #[test]
 fn worlds(rt: HostRuntime) -> Result<(), Fail> {
     let heap = rt.alloc();
-    let text = file("EEEERRRR", BLOCKS, heap)?;
-    let stores = Stores::read(text.as_str(), heap)?;
+    let text = file(BLOCK_ROLES, BLOCKS, heap)?;
+    let stores = read(text.as_str(), heap)?;
     for due in BY_HAND {
         check_tallies(&rt, &stores, WEIGHTS, due, heap)?;
     }

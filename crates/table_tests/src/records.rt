@@ -24,39 +24,41 @@ const OFF: Node = Node {
 
 const FORK: Form = Form::Fork { variable: 1 };
 
+const SOUND: Due = Ok(&[1, 1, 1]);
+
 // What a third node behind the two literals is, where its children begin and how many they are,
-// the child store, and the number of the refusal for one chance, if it is refused.
-const CASES: &[(Form, u16, u16, &[u16], Option<u8>)] = &[
+// the child store, and what is due for one chance.
+const CASES: &[(Form, u16, u16, &[u16], Due)] = &[
     // an and whose children pass the end of the store
-    (Form::And, 0, 2, &[0], Some(8)),
-    (Form::And, 1, 1, &[0], Some(8)),
-    (Form::And, 0, 1, &[], Some(8)),
-    (Form::And, 65535, 1, &[0, 1], Some(8)),
-    (Form::And, 1, 65535, &[0, 1], Some(8)),
-    (Form::And, 65535, 65535, &[0, 1], Some(8)),
+    (Form::And, 0, 2, &[0], Err((8, 2))),
+    (Form::And, 1, 1, &[0], Err((8, 2))),
+    (Form::And, 0, 1, &[], Err((8, 2))),
+    (Form::And, 65535, 1, &[0, 1], Err((8, 2))),
+    (Form::And, 1, 65535, &[0, 1], Err((8, 2))),
+    (Form::And, 65535, 65535, &[0, 1], Err((8, 2))),
     // a fork whose children do
-    (FORK, 0, 2, &[0], Some(8)),
-    (FORK, 0, 2, &[], Some(8)),
-    (FORK, 1, 2, &[0, 1], Some(8)),
-    (FORK, 2, 2, &[0, 1], Some(8)),
-    (FORK, 65534, 2, &[0, 1], Some(8)),
-    (FORK, 65535, 2, &[0, 1], Some(8)),
+    (FORK, 0, 2, &[0], Err((8, 2))),
+    (FORK, 0, 2, &[], Err((8, 2))),
+    (FORK, 1, 2, &[0, 1], Err((8, 2))),
+    (FORK, 2, 2, &[0, 1], Err((8, 2))),
+    (FORK, 65534, 2, &[0, 1], Err((8, 2))),
+    (FORK, 65535, 2, &[0, 1], Err((8, 2))),
     // children that end with the store, or before
-    (Form::And, 1, 1, &[9, 0], None),
-    (Form::And, 1, 1, &[9, 0, 9], None),
-    (FORK, 1, 2, &[9, 0, 1], None),
-    (FORK, 1, 2, &[9, 0, 1, 9], None),
-    (Form::And, 1, 0, &[0], Some(13)),
+    (Form::And, 1, 1, &[9, 0], SOUND),
+    (Form::And, 1, 1, &[9, 0, 9], SOUND),
+    (FORK, 1, 2, &[9, 0, 1], SOUND),
+    (FORK, 1, 2, &[9, 0, 1, 9], SOUND),
+    (Form::And, 1, 0, &[0], Err((13, 2))),
     // a number in the store that no node has
-    (Form::And, 1, 1, &[0, 65535], Some(8)),
-    (FORK, 0, 2, &[0, 65535], Some(8)),
+    (Form::And, 1, 1, &[0, 65535], Err((8, 2))),
+    (FORK, 0, 2, &[0, 65535], Err((8, 2))),
 ];
 
 #[test]
 fn records(rt: HostRuntime) -> Result<(), Fail> {
     let text = file("R", "T", rt.alloc())?;
     let variables = read(text.as_str(), rt.alloc())?.variables;
-    for (form, first, count, children, number) in CASES {
+    for (form, first, count, children, due) in CASES {
         let node = Node {
             form: *form,
             first: *first,
@@ -67,10 +69,7 @@ fn records(rt: HostRuntime) -> Result<(), Fail> {
             &[ON, OFF, node],
             *children,
             &variables,
-            match *number {
-                Some(number) => Err((number, 2)),
-                None => Ok(&[1, 1, 1]),
-            },
+            *due,
             &format_args!("{first} {count}"),
         );
     }

@@ -92,8 +92,8 @@ impl Stores {
         }
     }
 
-    // A list and how much of it: the cases share one list, and leave a longer or shorter part of it.
     /// A file meets this refusal or none, and leaves so many of these nodes and children.
+    // A list and how much of it: the cases share one list, and leave a longer or shorter part of it.
     pub(crate) fn check_read(
         &mut self,
         rt: &impl Abort,
