@@ -1,9 +1,8 @@
 //! The calls on plant K, with answers worked out by hand.
-use crate::steps::{MARK, Step, Study, table_of};
+use crate::steps::{MARK, Step, run_steps};
 use kinds::value::Peak;
 use kinds::written::Written;
 use passes::holds::Holds;
-use passes::sheet::Sheet;
 use plants::files::PLANT;
 use plants::stores::Stores;
 use search::number_order::NumberOrder;
@@ -72,26 +71,28 @@ fn check_calls<K: Written + Clone>(
     let plant = Stores::read(PLANT, heap)?;
     let mut sheet = vec![in heap; mark; 4]?;
     let mut work = vec![in heap; mark; 21]?;
-    let mut study = Study {
-        table: table_of(&plant, &by_number)?,
-        order: &NumberOrder,
-        holds: Holds::new(),
-        sheet: Sheet {
-            figures: sheet.as_mut_slice(),
-        },
-        work: work.as_mut_slice(),
-    };
-    study.run(rt, steps, heap, &by_number)?;
-    let mut study = Study {
-        table: table_of(&plant, &by_lean)?,
-        order: &StrongestLean,
-        holds: Holds::new(),
-        sheet: Sheet {
-            figures: sheet.as_mut_slice(),
-        },
-        work: work.as_mut_slice(),
-    };
-    study.run(rt, steps, heap, &by_lean)
+    run_steps(
+        rt,
+        &plant,
+        &NumberOrder,
+        &mut Holds::new(),
+        sheet.as_mut_slice(),
+        work.as_mut_slice(),
+        steps,
+        heap,
+        &by_number,
+    )?;
+    run_steps(
+        rt,
+        &plant,
+        &StrongestLean,
+        &mut Holds::new(),
+        sheet.as_mut_slice(),
+        work.as_mut_slice(),
+        steps,
+        heap,
+        &by_lean,
+    )
 }
 
 #[test]

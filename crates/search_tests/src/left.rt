@@ -1,9 +1,8 @@
 //! What the calls leave in the work table.
 use crate::shown::show_figures;
-use crate::steps::{Held, MARK, Step, Study, holds_of, table_of};
+use crate::steps::{Held, MARK, Step, holds_of, run_steps};
 use kinds::value::Tally;
 use kinds::written::Written;
-use passes::sheet::Sheet;
 use plants::files::PLANT;
 use plants::stores::Stores;
 use search::number_order::NumberOrder;
@@ -44,16 +43,17 @@ fn work_after(
 ) -> Result<Vec<Tally>, Fail> {
     let mut sheet = SHEET;
     let mut work = vec![in heap; MARK; 25]?;
-    let mut study = Study {
-        table: table_of(plant, &"25 places")?,
-        order: &NumberOrder,
-        holds: holds_of(held),
-        sheet: Sheet {
-            figures: &mut sheet,
-        },
-        work: work.as_mut_slice(),
-    };
-    study.run(rt, &[step], heap, &"25 places")?;
+    run_steps(
+        rt,
+        plant,
+        &NumberOrder,
+        &mut holds_of(held),
+        &mut sheet,
+        work.as_mut_slice(),
+        &[step],
+        heap,
+        &"25 places",
+    )?;
     Ok(work)
 }
 

@@ -1,7 +1,6 @@
 //! Refused calls on plant K.
-use crate::steps::{Held, MARK, Study, holds_of, table_of};
+use crate::steps::{Held, MARK, holds_of, run_steps};
 use kinds::written::Written;
-use passes::sheet::Sheet;
 use plants::files::PLANT;
 use plants::stores::Stores;
 use search::number_order::NumberOrder;
@@ -167,16 +166,17 @@ fn check_case(
     for step in steps {
         let mut sheet = vec![in heap; MARK; figures]?;
         let mut work = vec![in heap; MARK; places]?;
-        let mut study = Study {
-            table: table_of(plant, case)?,
-            order: &NumberOrder,
-            holds: holds_of(held),
-            sheet: Sheet {
-                figures: sheet.as_mut_slice(),
-            },
-            work: work.as_mut_slice(),
-        };
-        study.run(rt, &[*step], heap, case)?;
+        run_steps(
+            rt,
+            plant,
+            &NumberOrder,
+            &mut holds_of(held),
+            sheet.as_mut_slice(),
+            work.as_mut_slice(),
+            &[*step],
+            heap,
+            case,
+        )?;
     }
     Ok(())
 }

@@ -1,6 +1,6 @@
 //! Select against all selections, one by one.
 use crate::shown::show_holds;
-use crate::steps::{Step, Study, table_of};
+use crate::steps::{Step, run_steps, table_of};
 use kinds::figure::Figure;
 use kinds::value::{Peak, Tally};
 use kinds::written::Written;
@@ -284,24 +284,26 @@ fn orders(rt: HostRuntime) -> Result<(), Fail> {
     let stores = Stores::read(text.as_str(), heap)?;
     let mut sheet = sheet_of::<Tally>(TALLIES, heap)?;
     let mut work = vec![in heap; Tally { count: 0 }; 297]?;
-    let mut study = Study {
-        table: table_of(&stores, &"number order")?,
-        order: &NumberOrder,
-        holds: Holds::new(),
-        sheet: Sheet {
-            figures: sheet.as_mut_slice(),
-        },
-        work: work.as_mut_slice(),
-    };
-    study.run(&rt, BY_NUMBER, heap, &"number order")?;
-    let mut study = Study {
-        table: table_of(&stores, &"strongest lean")?,
-        order: &StrongestLean,
-        holds: Holds::new(),
-        sheet: Sheet {
-            figures: sheet.as_mut_slice(),
-        },
-        work: work.as_mut_slice(),
-    };
-    study.run(&rt, BY_LEAN, heap, &"strongest lean")
+    run_steps(
+        &rt,
+        &stores,
+        &NumberOrder,
+        &mut Holds::new(),
+        sheet.as_mut_slice(),
+        work.as_mut_slice(),
+        BY_NUMBER,
+        heap,
+        &"number order",
+    )?;
+    run_steps(
+        &rt,
+        &stores,
+        &StrongestLean,
+        &mut Holds::new(),
+        sheet.as_mut_slice(),
+        work.as_mut_slice(),
+        BY_LEAN,
+        heap,
+        &"strongest lean",
+    )
 }

@@ -17,8 +17,7 @@ pub(crate) fn show_holds(holds: &Holds, heap: Global) -> Result<String, AllocErr
             Entry::On => "+",
             Entry::Off => "-",
         };
-        let held = format!(in heap; "{sign}{variable}")?;
-        text.push_str(held.as_str())?;
+        write!(text, "{sign}{variable}")?;
     }
     Ok(text)
 }
@@ -27,9 +26,7 @@ pub(crate) fn show_holds(holds: &Holds, heap: Global) -> Result<String, AllocErr
 pub(crate) fn show_figures<K: Written>(figures: &[K], heap: Global) -> Result<String, AllocError> {
     let mut text = String::new(heap);
     for figure in figures {
-        let written = figure.write(heap)?;
-        text.push_str(written.as_str())?;
-        text.push_str(" ")?;
+        write!(text, "{figure} ")?;
     }
     Ok(text)
 }

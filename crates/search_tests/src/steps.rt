@@ -72,77 +72,72 @@ fn may_weigh<K: Written>(call: Call<K>) -> bool {
     matches!(call, Call::Weigh { .. })
 }
 
-/// A study of a table: an order, and what the calls may change.
-#[derive(Drop)]
-pub(crate) struct Study<'a, K, O> {
-    pub table: Table<'a>,
-    pub order: &'a O,
-    pub holds: Holds,
-    pub sheet: Sheet<'a, K>,
-    pub work: &'a mut [K],
+// Answers one call: it changes only what it may, and nothing if it is refused.
+// Its parameters are no struct: the borrow checker covers no call that lends several fields of one.
+fn run_step<K: Written, O: BranchingOrder<K>>(
+    rt: &impl Abort,
+    table: &Table,
+    order: &O,
+    holds: &mut Holds,
+    sheet: &mut Sheet<K>,
+    work: &mut [K],
+    number: usize,
+    step: Step,
+    heap: Global,
+    case: &impl Display,
+) -> Result<(), Fail> {
+    let (spoken, due) = step;
+    let Some(call) = call_of(spoken) else {
+        return Err(Fail::new(format_args!("no call: call {number}: {spoken}: {case}")));
+    };
+    let before = show_study(holds, sheet, work, heap)?;
+    let answer = ask(table, order, holds, sheet, work, call);
+    let after = show_study(holds, sheet, work, heap)?;
+    let shown = show_answer(answer, heap)?;
+    assert_eq!(rt; shown.as_str(), due, "call {number}: {spoken}: {case}");
+    let refused = answer.is_err();
+    if refused || !may_hold(call) {
+        assert_eq!(rt;
+            after.holds.as_str(),
+            before.holds.as_str(),
+            "holds: call {number}: {spoken}: {case}"
+        );
+    }
+    if refused || !may_weigh(call) {
+        assert_eq!(rt;
+            after.sheet.as_str(),
+            before.sheet.as_str(),
+            "sheet: call {number}: {spoken}: {case}"
+        );
+    }
+    if refused || may_hold(call) || may_weigh(call) {
+        assert_eq!(rt;
+            after.work.as_str(),
+            before.work.as_str(),
+            "work table: call {number}: {spoken}: {case}"
+        );
+    }
+    Ok(())
 }
 
-impl<K: Written, O: BranchingOrder<K>> Study<'_, K, O> {
-    // Answers one call: it changes only what it may, and nothing if it is refused.
-    fn step(
-        &mut self,
-        rt: &impl Abort,
-        step: Step,
-        heap: Global,
-        case: &impl Display,
-    ) -> Result<(), Fail> {
-        let (spoken, due) = step;
-        let Some(call) = call_of(spoken) else {
-            return Err(Fail::new(format_args!("no call: {spoken}: {case}")));
-        };
-        let before = show_study(&self.holds, &self.sheet, self.work, heap)?;
-        let answer = ask(
-            &self.table,
-            self.order,
-            &mut self.holds,
-            &mut self.sheet,
-            self.work,
-            call,
-        );
-        let after = show_study(&self.holds, &self.sheet, self.work, heap)?;
-        let shown = show_answer(answer, heap)?;
-        assert_eq!(rt; shown.as_str(), due, "{spoken}: {case}");
-        let refused = answer.is_err();
-        if refused || !may_hold(call) {
-            assert_eq!(rt;
-                after.holds.as_str(),
-                before.holds.as_str(),
-                "holds: {spoken}: {case}"
-            );
-        }
-        if refused || !may_weigh(call) {
-            assert_eq!(rt;
-                after.sheet.as_str(),
-                before.sheet.as_str(),
-                "sheet: {spoken}: {case}"
-            );
-        }
-        if refused || may_hold(call) || may_weigh(call) {
-            assert_eq!(rt;
-                after.work.as_str(),
-                before.work.as_str(),
-                "work table: {spoken}: {case}"
-            );
-        }
-        Ok(())
+/// Answers the calls on the table of these parts.
+pub(crate) fn run_steps<K: Written, O: BranchingOrder<K>>(
+    rt: &impl Abort,
+    stores: &Stores,
+    order: &O,
+    holds: &mut Holds,
+    figures: &mut [K],
+    work: &mut [K],
+    steps: &[Step],
+    heap: Global,
+    case: &impl Display,
+) -> Result<(), Fail> {
+    let table = table_of(stores, case)?;
+    let mut sheet = Sheet { figures };
+    for (i, step) in steps.iter().enumerate() {
+        run_step(
+            rt, &table, order, holds, &mut sheet, work, i, *step, heap, case,
+        )?;
     }
-
-    /// Answers the calls.
-    pub(crate) fn run(
-        &mut self,
-        rt: &impl Abort,
-        steps: &[Step],
-        heap: Global,
-        case: &impl Display,
-    ) -> Result<(), Fail> {
-        for (i, step) in steps.iter().enumerate() {
-            self.step(rt, *step, heap, &format_args!("call {i}: {case}"))?;
-        }
-        Ok(())
-    }
+    Ok(())
 }
