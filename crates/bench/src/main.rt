@@ -12,7 +12,7 @@ use plant::Plant;
 use std::time::Instant;
 use std::{env, io};
 use table::table::Table;
-use text::refusal::{Refusal, RefusalLine};
+use text::refusal::RefusalLine;
 
 /// How many options are held in the runs.
 const HELD: &[u16] = &[0, 10];

@@ -65,5 +65,5 @@ fn is_on(holds: &Holds, number: u16, role: Role) -> bool
     requires { 0 < number }
     ensures { result ≡ (is_option_role role && selected holds.now.entries number) }
 {
-    matches!(role, Role::Option) && matches!(holds.entry(number), Entry::On)
+    role == Role::Option && holds.entry(number) == Entry::On
 }

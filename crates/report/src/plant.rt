@@ -36,11 +36,10 @@ pub fn plant_report<K: Written, O: BranchingOrder<K>>(
 ) -> Result<String, AllocError>
     ensures { IfOk result (λ s. string_bytes s ≡ text_of (plant_report K.ring K.text (O.picks order.now) K.reading file.now)) }
 {
-    match file_report::<K, O>(heap, order, file) {
-        Ok(text) => Ok(text),
-        Err(Stop::Refused(fault)) => RefusalLine(fault).to_string(heap),
-        Err(Stop::NoMemory(error)) => Err(error),
-    }
+    file_report::<K, O>(heap, order, file).or_else(|stop| match stop {
+        Stop::Refused(fault) => RefusalLine(fault).to_string(heap),
+        Stop::NoMemory(error) => Err(error),
+    })
 }
 
 /// What is printed for a file whose parts are accepted.

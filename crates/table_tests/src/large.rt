@@ -2,7 +2,6 @@
 use crate::stores::check_file;
 use plants::files::file;
 use std::alloc::{AllocError, Global};
-use std::fmt::Write;
 use std::test::Fail;
 
 // 20 options and 44 chances.

@@ -15,8 +15,7 @@ fn large(
     let mut file = String::from_str(heap, "G\t64\t4096\t12288\n")?;
     for i in 1..64usize {
         let letter = if i <= options { "E" } else { "R" };
-        let line = format!(in heap; "V\t{i}\t{letter}\tname {i}\n")?;
-        file.push_str(line.as_str())?;
+        write!(file, "V\t{i}\t{letter}\tname {i}\n")?;
     }
     let nodes = "\nT".repeat(heap, 4095)?;
     let children = "\t7".repeat(heap, children)?;

@@ -77,21 +77,20 @@ const WRITTEN: [(usize, usize); 12] = [
 
 /// The plant's file.
 pub(crate) fn plant(heap: Global) -> Result<String, AllocError> {
-    spoiled(HEADER, 0, "", heap)
+    spoiled(HEADER, None, heap)
 }
 
 /// The plant's file with another header, and with another text in the place of a line.
 pub(crate) fn spoiled(
     header: &str,
-    line: usize,
-    text: &str,
+    change: Option<(usize, &str)>,
     heap: Global,
 ) -> Result<String, AllocError> {
     let mut file = String::new(heap);
     for (i, old) in LINES.iter().enumerate() {
-        let new = match i {
-            _ if i.saturating_add(1) == line => text,
-            0 => header,
+        let new = match change {
+            Some((line, text)) if line == i.saturating_add(1) => text,
+            _ if i == 0 => header,
             _ => *old,
         };
         file.push_str(new)?;

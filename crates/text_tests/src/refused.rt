@@ -186,7 +186,7 @@ const LINES: &[(u8, usize, &str)] = &[
 #[test]
 fn spoiled_lines(rt: HostRuntime) -> Result<(), Fail> {
     for (number, line, text) in LINES {
-        let file = spoiled(HEADER, *line, *text, rt.alloc())?;
+        let file = spoiled(HEADER, Some((*line, *text)), rt.alloc())?;
         check_read(
             &rt,
             file.as_bytes(),
@@ -226,7 +226,7 @@ fn spoiled_numbers(rt: HostRuntime) -> Result<(), Fail> {
     for (line, before, behind) in SLOTS {
         for form in FORMS {
             let text = format!(in rt.alloc(); "{before}{form}{behind}")?;
-            let file = spoiled(HEADER, *line, text.as_str(), rt.alloc())?;
+            let file = spoiled(HEADER, Some((*line, text.as_str())), rt.alloc())?;
             check_read(&rt, file.as_bytes(), Some((3, *line)), rt.alloc(), &text)?;
         }
     }
@@ -234,41 +234,41 @@ fn spoiled_numbers(rt: HostRuntime) -> Result<(), Fail> {
 }
 
 // A header, a line and a text in its place, and the number and the place of the refusal.
-const HEADERS: &[(&str, usize, &str, u8, usize)] = &[
+const HEADERS: &[(&str, Option<(usize, &str)>, u8, usize)] = &[
     // the counts of the plant's children
-    ("G\t2\t7\t0", 0, "", 7, 6),
-    ("G\t2\t7\t1", 0, "", 7, 6),
-    ("G\t2\t7\t2", 0, "", 7, 9),
-    ("G\t2\t7\t3", 0, "", 7, 9),
-    ("G\t2\t7\t4", 0, "", 7, 10),
-    ("G\t2\t7\t5", 0, "", 7, 10),
-    ("G\t2\t7\t7", 0, "", 7, 10),
-    ("G\t2\t7\t8", 0, "", 7, 10),
-    ("G\t2\t6\t6", 0, "", 7, 9),
+    ("G\t2\t7\t0", None, 7, 6),
+    ("G\t2\t7\t1", None, 7, 6),
+    ("G\t2\t7\t2", None, 7, 9),
+    ("G\t2\t7\t3", None, 7, 9),
+    ("G\t2\t7\t4", None, 7, 10),
+    ("G\t2\t7\t5", None, 7, 10),
+    ("G\t2\t7\t7", None, 7, 10),
+    ("G\t2\t7\t8", None, 7, 10),
+    ("G\t2\t6\t6", None, 7, 9),
     // each child's form is judged before the count
-    ("G\t2\t7\t1", 6, "A\t0\tx", 3, 6),
-    ("G\t2\t7\t1", 6, "A\tx\t1", 3, 6),
-    ("G\t2\t7\t0", 6, "A\t0\t1\t2\t65536", 3, 6),
-    ("G\t2\t7\t5", 10, "O\t2\t2\t05", 3, 10),
-    ("G\t2\t7\t5", 10, "O\t2\t\t5", 3, 10),
-    ("G\t2\t7\t7", 10, "O\t+2\t2\t5", 3, 10),
+    ("G\t2\t7\t1", Some((6, "A\t0\tx")), 3, 6),
+    ("G\t2\t7\t1", Some((6, "A\tx\t1")), 3, 6),
+    ("G\t2\t7\t0", Some((6, "A\t0\t1\t2\t65536")), 3, 6),
+    ("G\t2\t7\t5", Some((10, "O\t2\t2\t05")), 3, 10),
+    ("G\t2\t7\t5", Some((10, "O\t2\t\t5")), 3, 10),
+    ("G\t2\t7\t7", Some((10, "O\t+2\t2\t5")), 3, 10),
     // a node where a variable is due, a variable or a weight where a node is due
-    ("G\t3\t7\t6", 0, "", 2, 4),
-    ("G\t64\t7\t6", 0, "", 2, 4),
-    ("G\t1\t7\t6", 0, "", 2, 3),
-    ("G\t2\t8\t6", 0, "", 2, 11),
+    ("G\t3\t7\t6", None, 2, 4),
+    ("G\t64\t7\t6", None, 2, 4),
+    ("G\t1\t7\t6", None, 2, 3),
+    ("G\t2\t8\t6", None, 2, 11),
 ];
 
 #[test]
 fn spoiled_headers(rt: HostRuntime) -> Result<(), Fail> {
-    for (header, line, text, number, place) in HEADERS {
-        let file = spoiled(*header, *line, *text, rt.alloc())?;
+    for (header, change, number, place) in HEADERS {
+        let file = spoiled(*header, *change, rt.alloc())?;
         check_read(
             &rt,
             file.as_bytes(),
             Some((*number, *place)),
             rt.alloc(),
-            &format_args!("{header}: {text}"),
+            &format_args!("{header}: {change:?}"),
         )?;
     }
     Ok(())
