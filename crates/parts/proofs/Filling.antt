@@ -1,7 +1,7 @@
 -- What the reader leaves in stores that were made for it. Assumes nothing.
+use Rattle.std.specs.List.{list_all}
 use Rattle.std.proofs.Common.{◌≡◌, ℕ, true, List, ◌++◌, length, take, replicate, Ok, Err, Result, sym, ap, ◌∙◌, subst}
 use Rattle.std.proofs.lemmas.List.{length-replicate, take_at}
-use Rattle.text.specs.Lines.{every}
 use Rattle.text.specs.Format.{Rooms, rooms_for, file_says, overwritten, listed, named_printable}
 use Rattle.text.specs.declared.fault.Fault.{Fault}
 use Rattle.text.specs.declared.record.Node.{Node}
@@ -29,7 +29,7 @@ module _ (r : Room) (file : List ℕ) (ns : List Node) (cs : List ℕ) (en : ns 
   pub accepted : (p : Parts) (before : List Node) (begun : List ℕ) → Ok p.contents ≡ (file_says (rooms_for ns cs) file).answer
       → before ≡ overwritten (file_says (rooms_for ns cs) file).nodes ns → begun ≡ overwritten (file_says (rooms_for ns cs) file).children cs
       → p.nodes.items ≡ take p.contents.nodes before → p.children.items ≡ take p.contents.children begun
-      → every named_printable (listed p.contents.variables) ≡ true → ArePartsOf r file p
+      → list_all named_printable (listed p.contents.variables) ≡ true → ArePartsOf r file p
   accepted p before begun e wrote filled cut-nodes cut-children names = record {
     is_accepted = sym (e ∙ ap (λ q. q.answer) given);
     nodes_are = cut-nodes ∙ ap (take p.contents.nodes) (wrote ∙ ap (λ q. overwritten q.nodes ns) given ∙ ap (overwritten (reading r file).nodes) en);

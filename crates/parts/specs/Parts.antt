@@ -1,6 +1,6 @@
 -- The parts of a table, from its file. Assumes nothing.
 use Rattle.std.specs.Prelude.{◌≡◌, ℕ, true, List, take, replicate, Ok, Err, Result}
-use Rattle.text.specs.Lines.{every}
+use Rattle.std.specs.List.{list_all}
 use Rattle.text.specs.Format.{Rooms, Reading, file_says, overwritten, listed, named_printable}
 use Rattle.text.specs.declared.fault.Fault.{Fault}
 use Rattle.text.specs.declared.record.Contents.{Contents}
@@ -44,7 +44,7 @@ pub record ArePartsOf (r : Room) (file : List ℕ) (p : Parts) : Type 0 where
   pub is_accepted : (reading r file).answer ≡ Ok p.contents
   pub nodes_are : p.nodes.items ≡ nodes_of r file p.contents
   pub children_are : p.children.items ≡ children_of r file p.contents
-  pub names_are : every named_printable (listed p.contents.variables) ≡ true
+  pub names_are : list_all named_printable (listed p.contents.variables) ≡ true
 
 abbrev pub Reads : Room → List ℕ → Result Parts Fault → Type 0
 Reads r file (Ok p) = ArePartsOf r file p

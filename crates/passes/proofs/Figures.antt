@@ -1,10 +1,10 @@
 -- The counting pass gives the selection's figure: the chances are set one after the other. Assumes nothing.
-use Rattle.std.specs.List.{AllByRecursion}
+use Rattle.std.specs.List.{AllByRecursion, list_all, list_any}
 use Rattle.std.proofs.Common.{◌≡◌, ℕ, ◌-◌, Bool, true, false, cond, not, ◌&&◌, ◌||◌, eqb, List, [], ◌∷◌, map, length, sym, refl, ap, ◌∙◌, subst, ap₂, inl, inr}
 use Rattle.std.proofs.lemmas.Bool.{both_ways, cases_Bool, cases_eq, cond-true, cond-false, eq-eqb, eqb-true, ne_eqb, or_from}
 use Rattle.kinds.specs.Semiring.{Semiring, Laws}
 use Rattle.kinds.proofs.Algebra.{sum_zero, product_one, product_zero}
-use Rattle.table.specs.Circuit.{Shape, lit, all, fork, top, bottom, World, upward, every, some, same, truth, satisfied}
+use Rattle.table.specs.Circuit.{Shape, lit, all, fork, top, bottom, World, upward, same, truth, satisfied}
 use Rattle.table.specs.Count.{put, over, weight, scenario, figure}
 use Rattle.table.specs.Facts.{Among, node, holds, Known, Proper}
 use Rattle.table.specs.Sound.{Roles, is_option, chances, sound, verdict}
@@ -19,22 +19,22 @@ use Rattle.passes.specs.Ways.{made, indicator, sums, count_way}
 use Rattle.passes.proofs.Made.{equal, made_related, made_same, upward_made, count_made}
 use Rattle.passes.proofs.Splits.{Solves, Split, split_nodes}
 
-some_none : {A : Type 0} (p : A → Bool) (xs : List A) → AllByRecursion (λ x. p x ≡ false) xs → some p xs ≡ false
+some_none : {A : Type 0} (p : A → Bool) (xs : List A) → AllByRecursion (λ x. p x ≡ false) xs → list_any p xs ≡ false
 some_none p [] h = refl
-some_none p (x ∷ xs) h = or_from (p x) (some p xs) h.0 (some_none p xs h.1)
+some_none p (x ∷ xs) h = or_from (p x) (list_any p xs) h.0 (some_none p xs h.1)
 
 -- an option is not among the chances
-option_apart : (rs : Roles) (v : ℕ) → is_option rs v ≡ true → some (eqb v) (chances rs) ≡ false
-option_apart rs v o = elim (cases_Bool (some (eqb v) (chances rs))) [
+option_apart : (rs : Roles) (v : ℕ) → is_option rs v ≡ true → list_any (eqb v) (chances rs) ≡ false
+option_apart rs v o = elim (cases_Bool (list_any (eqb v) (chances rs))) [
   | inl t ↦ (let c = some_at (eqb v) (chances rs) t in
       absurd (both_ways (is_option rs v) (rw (eqb-true v c.0 c.2) (listed_role rs false c.0 c.1).1) o))
   | inr f ↦ f
 ]
 
 module _ {F : Type 0} {R : Semiring F} (laws : Laws R) where
-  indicator_every : {A : Type 0} (p : A → Bool) (xs : List A) → indicator R (every p xs) ≡ times R (map (λ x. indicator R (p x)) xs)
+  indicator_every : {A : Type 0} (p : A → Bool) (xs : List A) → indicator R (list_all p xs) ≡ times R (map (λ x. indicator R (p x)) xs)
   indicator_every p [] = refl
-  indicator_every p (x ∷ xs) = both (p x) (every p xs) ∙ ap (R.product (indicator R (p x))) (indicator_every p xs)
+  indicator_every p (x ∷ xs) = both (p x) (list_all p xs) ∙ ap (R.product (indicator R (p x))) (indicator_every p xs)
     where
       both : (a b : Bool) → indicator R (a && b) ≡ R.product (indicator R a) (indicator R b)
       both true b = sym (laws.one_product (indicator R b))
@@ -62,7 +62,7 @@ module _ {F : Type 0} {R : Semiring F} (laws : Laws R) where
 module _ {F : Type 0} (R : Semiring F) (laws : Laws R) (sheet : List F) where
   -- a literal's value where the variables vs have their weights, and the others are as in w
   abbrev leaf : List ℕ → World → ℕ → Bool → F
-  leaf vs w x on = cond (some (eqb x) vs) (weight R sheet x on) (indicator R (same (w x) on))
+  leaf vs w x on = cond (list_any (eqb x) vs) (weight R sheet x on) (indicator R (same (w x) on))
 
   leaf_split : (v : ℕ) (vs : List ℕ) → Distinct (v ∷ vs) → (w : World) (u : ℕ) (on : Bool)
       → Split R (weight R sheet v) (eqb v u) (leaf (v ∷ vs) w u on) (λ b. leaf vs (put w v b) u on)

@@ -27,8 +27,8 @@ module _ (rs : Roles) (out : List ℕ) (n i : ℕ) where
   pub list_chance : i < length rs → get_or rs i false ≡ false → (whole : List ℕ) → take n out ++ rest_from rs i ≡ whole → take n out ++ rest_from rs (i + 1) ≡ whole
   list_chance h t whole inv = sym (ap (λ vs. take n out ++ vs) (rest_next h ∙ cond-false _ _ _ t)) ∙ inv
 
-  pub list_all : length rs ≤ i → (whole : List ℕ) → take n out ++ rest_from rs i ≡ whole → take n out ≡ whole
-  list_all l whole inv =
+  pub all_listed : length rs ≤ i → (whole : List ℕ) → take n out ++ rest_from rs i ≡ whole → take n out ≡ whole
+  all_listed l whole inv =
       sym (append-nil (take n out)) ∙ sym (ap (λ vs. take n out ++ vs) (at_drop_all (from (i + 1) true) rs i l)) ∙ inv
 
 among_there : (vs : List ℕ) (j : ℕ) → j < length vs → Among (get_or vs j 0) vs

@@ -1,10 +1,10 @@
 -- A sum over one variable: where each literal's value is split over the variable's two settings, so is each node's.
 -- Assumes nothing.
 use Rattle.std.proofs.Common.{◌≡◌, ℕ, suc, ◌<◌, Bool, true, false, ◌||◌, eqb, List, [], ◌∷◌, map, length, get_or, sym, refl, ap, ◌∙◌, subst, ap₂, inl, inr, true≢false, arith}
-use Rattle.std.specs.List.{AllByRecursion}
+use Rattle.std.specs.List.{AllByRecursion, list_any}
 use Rattle.kinds.specs.Semiring.{Semiring, Laws}
 use Rattle.kinds.proofs.Algebra.{weigh_sum, weigh_left, weigh_right}
-use Rattle.table.specs.Circuit.{Shape, lit, all, fork, top, bottom, some, mention, mentions}
+use Rattle.table.specs.Circuit.{Shape, lit, all, fork, top, bottom, mention, mentions}
 use Rattle.table.specs.Facts.{Among, node, about, Proper}
 use Rattle.table.specs.Sound.{Roles, chances, children}
 use Rattle.table.proofs.Listed.{all_at, some_at}
@@ -54,10 +54,10 @@ module _ {F : Type 0} {R : Semiring F} (laws : Laws R) (c : Bool → F) where
 
     split_all : (cs : List ℕ)
         → ((j k : ℕ) → j < k → k < length cs → about ss (get_or cs j 0) v ≡ true → about ss (get_or cs k 0) v ≡ true → ⊥)
-        → ((d : ℕ) → Among d cs → SplitAt d) → Split R c (some (λ d. about ss d v) cs) (times R (map x cs)) (λ b. times R (map (y b) cs))
+        → ((d : ℕ) → Among d cs → SplitAt d) → Split R c (list_any (λ d. about ss d v) cs) (times R (map x cs)) (λ b. times R (map (y b) cs))
     split_all [] apart h = λ b. refl
     split_all (d ∷ cs) apart h =
-        split_product (about ss d v) (some (λ e. about ss e v) cs)
+        split_product (about ss d v) (list_any (λ e. about ss e v) cs)
         (λ here there.
         let other = some_at (λ e. about ss e v) cs there in
         all_at (λ e. about ss e v ≡ true → ⊥) cs

@@ -1,11 +1,12 @@
 -- What the passes compute of one node, from a work table in which each node's part has `stride` places, its value first.
 -- Assumes nothing.
 use Rattle.std.specs.Prelude.{ℕ, ◌+◌, ◌-◌, ◌*◌, Bool, true, cond, ◌&&◌, List, length, nat_le, nat_lt, slice_index_or}
+use Rattle.std.specs.List.{list_all}
 use Rattle.text.specs.declared.record.Form.{Form}
 use Rattle.text.specs.declared.record.Form.TheVariants.{Literal, And, Fork, True, False}
 use Rattle.text.specs.declared.record.Node.{Node}
 use Rattle.kinds.specs.Semiring.{Semiring}
-use Rattle.table.specs.Circuit.{Shape, lit, all, fork, top, bottom, every}
+use Rattle.table.specs.Circuit.{Shape, lit, all, fork, top, bottom}
 use Rattle.table.specs.Sound.{known}
 
 -- where a variable's on (or off) weight stands in a sheet
@@ -19,7 +20,7 @@ inside size stride c = nat_le (c * stride + stride) size
 -- whether a literal is of one of n variables, and the children's parts are among the first `size` places
 abbrev pub readable : (n size stride : ℕ) → Shape → Bool
 readable n size stride (lit v b) = known n v
-readable n size stride (all cs) = every (inside size stride) cs
+readable n size stride (all cs) = list_all (inside size stride) cs
 readable n size stride (fork v a b) = inside size stride a && inside size stride b
 readable n size stride top = true
 readable n size stride bottom = true

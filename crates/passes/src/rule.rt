@@ -1,6 +1,7 @@
 //! What every pass does: it values the nodes in order, each from those before it, by a rule.
 ghost use Rattle.std.specs.Prelude.{◌≡◌, ℕ, ◌*◌, ◌<◌, ◌≤◌, true, List, ◌++◌, length, map, drop};
-ghost use Rattle.table.specs.Circuit.{every, upward};
+ghost use Rattle.std.specs.List.{list_all};
+ghost use Rattle.table.specs.Circuit.{upward};
 ghost use Rattle.table.specs.Facts.{node};
 ghost use Rattle.table.specs.Nodes.{shape};
 ghost use Rattle.table.specs.Sound.{known};
@@ -48,7 +49,7 @@ impl<K: Figure> Query<'_, K> {
     /// The product of the children's values.
     fn product<W: Rule<K>>(&self, rule: &W, parts: &Parts<K>, children: &[u16]) -> K
         requires fits { W.fits rule.now parts.now.stride }
-        requires inside { every (inside (length parts.now.places.now) parts.now.stride) children.now ≡ true }
+        requires inside { list_all (inside (length parts.now.places.now) parts.now.stride) children.now ≡ true }
         ensures { result ≡ times K.ring (map (W.child_in rule.now self.now parts.now.stride parts.now.places.now) children.now) }
     {
         // A loop: the closure of a fold can't be told that each child may be read.

@@ -1,8 +1,9 @@
 -- A day is answered as worked out, and in no other way. Assumes nothing.
+use Rattle.std.specs.List.{list_all}
 use Rattle.std.proofs.Common.{◌≡◌, ℕ, zero, suc, ◌+◌, ◌-◌, ◌<◌, ◌≤◌, Bool, true, false, not, ◌&&◌, eqb, ltb, ◌⊎◌, List, [], ◌∷◌, length, get_or, replicate, Some, None, Ok, Err, Option, sym, refl, ap, ◌∙◌, ap₂, inl, inr, arith}
 use Rattle.std.proofs.lemmas.Bool.{true≢false, false≢true, cases_Bool, cond_both, and_parts, not-true, ltb-true}
 use Rattle.kinds.specs.Semiring.{Semiring, Laws}
-use Rattle.table.specs.Circuit.{Shape, every}
+use Rattle.table.specs.Circuit.{Shape}
 use Rattle.table.specs.Facts.{Among}
 use Rattle.table.specs.Sound.{Roles, is_option, options, sound, verdict, up_to}
 use Rattle.table.proofs.Listed.{every_at, some_at, some_among}
@@ -26,7 +27,7 @@ use Rattle.search.proofs.Bounds.{bounded}
 -- each refusal's number is below those of the refusals behind it
 abbrev rise : Tests → Bool
 rise [] = true
-rise (t ∷ ts) = every (λ u. ltb (fault_number t.1) (fault_number u.1)) ts && rise ts
+rise (t ∷ ts) = list_all (λ u. ltb (fault_number t.1) (fault_number u.1)) ts && rise ts
 
 -- what the first fit means: no refusal fits, or this one does and has the lowest number of those that fit
 abbrev Judged : Tests → Option Fault → Type 0
@@ -43,7 +44,7 @@ judged_later t ts (Some f) out j = (
 judged : (ts : Tests) → rise ts ≡ true → Judged ts (first_fit ts)
 judged [] up = λ f m. m
 judged (t ∷ ts) up =
-    let ups = and_parts (every (λ u. ltb (fault_number t.1) (fault_number u.1)) ts) (rise ts) up in
+    let ups = and_parts (list_all (λ u. ltb (fault_number t.1) (fault_number u.1)) ts) (rise ts) up in
     cond_both t.0 (Some t.1) (first_fit ts) (Judged (t ∷ ts))
     (λ fits. (
       inl (ap (λ b. (b, t.1)) fits),
@@ -210,7 +211,7 @@ module _ {F : Type 0} (R : Semiring F) (pick : Order F) (rs : Roles) (ss : List 
   tidy_changed b Bound tidy passes = tidy
   tidy_changed b Select tidy passes = tidy
 
-  tests_stray : (b : Book F) (c : Call F) → (stray_hold rs b.holds).0 ≡ false → every not_for_stray (tests rs ss work-size b c) ≡ true
+  tests_stray : (b : Book F) (c : Call F) → (stray_hold rs b.holds).0 ≡ false → list_all not_for_stray (tests rs ss work-size b c) ≡ true
   tests_stray b (Hold v s) out = rw out refl
   tests_stray b (Release v) out = rw out refl
   tests_stray b (Weigh v x y) out = rw out refl

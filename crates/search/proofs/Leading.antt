@@ -1,10 +1,10 @@
 -- Strongest lean, one choice after the other. Assumes nothing.
+use Rattle.std.specs.List.{list_all}
 use Rattle.std.proofs.Common.{◌≡◌, ℕ, ◌+◌, ◌<◌, ◌≤◌, Bool, true, false, cond, List, [], ◌∷◌, length, get_or, drop, Some, None, Option, sym, refl, ap, ◌∙◌, subst, not-suc-le-zero}
 use Rattle.std.proofs.lemmas.List.{at_drop_more, at_drop_all}
 use Rattle.std.proofs.lemmas.Bool.{cond-true, cond-false, cond_both}
 use Rattle.std.specs.Option.{unwrap_or}
 use Rattle.kinds.specs.Semiring.{Semiring}
-use Rattle.table.specs.Circuit.{every}
 use Rattle.table.proofs.Folds.{every_here}
 use Rattle.passes.specs.Holding.{filter}
 use Rattle.search.specs.declared.choice.Choice.{Choice}
@@ -50,7 +50,7 @@ module _ {F : Type 0} (R : Semiring F) (part : List F) where
   pub record Leading (cs : List Choice) (best : Option Choice) (i : ℕ) : Type 0 where
     pub answer : answer_after (lowest (told R part cs)) best (drop i cs) ≡ strongest R (told R part cs)
     pub best_in : best_placed (length part) best ≡ true
-    pub rest_in : every (placed (length part)) (drop i cs) ≡ true
+    pub rest_in : list_all (placed (length part)) (drop i cs) ≡ true
 
   module _ (cs : List Choice) (best : Option Choice) (i : ℕ) (d : Choice) where
     pub here_placed : i < length cs → Leading cs best i → placed (length part) (get_or cs i d) ≡ true

@@ -64,7 +64,7 @@ module _ (m : Vars) (h : Entries) (rs : Roles) where
           long = inv.long;
         }
 
-    pub list_all : length rs ≤ i → take n out ≡ choices_from m h 0 (options rs)
-    list_all l =
+    pub all_listed : length rs ≤ i → take n out ≡ choices_from m h 0 (options rs)
+    all_listed l =
         sym (append-nil (take n out))
         ∙ sym (ap (λ vs. take n out ++ choices_from m h j vs) (at_drop_all (from (i + 1) true) rs i l)) ∙ inv.listed

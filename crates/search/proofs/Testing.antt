@@ -1,7 +1,6 @@
 -- What a test answers, and tests of all variables at once. Assumes nothing.
 use Rattle.std.proofs.Common.{◌≡◌, ℕ, suc, ◌+◌, ◌-◌, ◌<◌, Bool, true, false, cond, ◌&&◌, ◌||◌, [], ◌∷◌, length, get_or, Ok, Err, Result, sym, refl, ap, ◌∙◌, ap₂, add-zero, zero-add, arith}
 use Rattle.std.specs.List.{list_any, range_with_len, enumerate_from}
-use Rattle.table.specs.Circuit.{some}
 use Rattle.table.specs.Sound.{Roles, is_option, from, options, up_to}
 use Rattle.table.proofs.Numbers.{role_at}
 use Rattle.passes.specs.Holding.{Entries, entry, is_free}
@@ -29,7 +28,7 @@ passes t r is e = by t.0 (sym is ∙ e)
 
 -- a test of the entries xs, which are those of h behind the first i
 any_entry : (q : ℕ → Entry → Bool) (h : Entries) (i : ℕ) (xs : Entries) → ((k : ℕ) → get_or xs k Free ≡ get_or h (i + k) Free)
-    → list_any (λ p. q (p.0 + 1) p.1) (enumerate_from i xs) ≡ some (λ v. q v (entry h v)) (up_to (i + 1) (length xs))
+    → list_any (λ p. q (p.0 + 1) p.1) (enumerate_from i xs) ≡ list_any (λ v. q v (entry h v)) (up_to (i + 1) (length xs))
 any_entry q h i [] e = refl
 any_entry q h i (x ∷ xs) e =
     let at : i + 0 ≡ i + 1 - 1 = omega arith in
@@ -37,22 +36,22 @@ any_entry q h i (x ∷ xs) e =
     (any_entry q h (i + 1) xs (λ k. e (suc k) ∙ ap (λ n. get_or h n Free) (let z : i + suc k ≡ i + 1 + k = omega arith in z)))
 
 pub any_variable : (q : ℕ → Entry → Bool) (h : Entries)
-    → list_any (λ p. q (p.0 + 1) p.1) (enumerate_from 0 h) ≡ some (λ v. q v (entry h v)) (up_to 1 (length h))
+    → list_any (λ p. q (p.0 + 1) p.1) (enumerate_from 0 h) ≡ list_any (λ v. q v (entry h v)) (up_to 1 (length h))
 any_variable q h = any_entry q h 0 h (λ k. ap (λ n. get_or h n Free) (sym (zero-add k)))
 
 -- a test of the options among the variables from i on, whose roles are rs
 any_option : (all : Roles) (h : Entries) (i : ℕ) (rs : Roles) → 0 < i → ((k : ℕ) → is_option all (i + k) ≡ get_or rs k false)
-    → list_any (λ v. is_option all v && is_free (entry_at h v)) (range_with_len i (length rs)) ≡ some (λ v. is_free (entry h v)) (from i true rs)
+    → list_any (λ v. is_option all v && is_free (entry_at h v)) (range_with_len i (length rs)) ≡ list_any (λ v. is_free (entry h v)) (from i true rs)
 any_option all h i [] low e = refl
 any_option all h i (r ∷ rs) low e =
     let here : is_option all i ≡ r = ap (is_option all) (sym (add-zero i)) ∙ e 0 in
     let rest = any_option all h (i + 1) rs (omega arith) (λ k. ap (is_option all) (let z : i + 1 + k ≡ i + suc k = omega arith in z) ∙ e (suc k)) in
     ap₂ (λ o b. (o && is_free (entry_at h i)) || b) here rest ∙ by r
   where
-    by : (r : Bool) → ((r && is_free (entry_at h i)) || some (λ v. is_free (entry h v)) (from (i + 1) true rs)) ≡ some (λ v. is_free (entry h v)) (from i true (r ∷ rs))
-    by true = ap (λ e. is_free e || some (λ v. is_free (entry h v)) (from (i + 1) true rs)) (entry_read h i low)
+    by : (r : Bool) → ((r && is_free (entry_at h i)) || list_any (λ v. is_free (entry h v)) (from (i + 1) true rs)) ≡ list_any (λ v. is_free (entry h v)) (from i true (r ∷ rs))
+    by true = ap (λ e. is_free e || list_any (λ v. is_free (entry h v)) (from (i + 1) true rs)) (entry_read h i low)
     by false = refl
 
 pub any_free : (rs : Roles) (h : Entries)
-    → list_any (λ v. is_option rs v && is_free (entry_at h v)) (range_with_len 1 (length rs)) ≡ some (λ v. is_free (entry h v)) (options rs)
+    → list_any (λ v. is_option rs v && is_free (entry_at h v)) (range_with_len 1 (length rs)) ≡ list_any (λ v. is_free (entry h v)) (options rs)
 any_free rs h = any_option rs h 1 rs (omega arith) (λ k. ap (is_option rs) (let z : 1 + k ≡ suc k = omega arith in z) ∙ role_at rs k)

@@ -1,8 +1,9 @@
 -- What an order is told of the free options. Assumes nothing.
+use Rattle.std.specs.List.{list_all}
 use Rattle.std.proofs.Common.{◌≡◌, ℕ, suc, ◌+◌, ◌*◌, ◌<◌, ◌≤◌, Bool, true, false, cond, List, [], ◌∷◌, map, length, get_or, refl, ap, ◌∙◌, ap₂, not-suc-le-zero, arith}
 use Rattle.std.proofs.lemmas.Bool.{and_from, lt-ltb}
 use Rattle.kinds.specs.Semiring.{Semiring}
-use Rattle.table.specs.Circuit.{Vars, every}
+use Rattle.table.specs.Circuit.{Vars}
 use Rattle.passes.specs.Holding.{Entries, entry, is_free, filter}
 use Rattle.passes.specs.Passes.{Part}
 use Rattle.passes.specs.Rows.{side_place}
@@ -23,12 +24,12 @@ module _ (m : Vars) (h : Entries) where
       by false e = e
 
   -- each option's values are in a part of 2k + 1 places
-  pub choices_placed : (j : ℕ) (vs : List ℕ) (size : ℕ) → 2 * (j + length vs) + 1 ≤ size → every (placed size) (choices_from m h j vs) ≡ true
+  pub choices_placed : (j : ℕ) (vs : List ℕ) (size : ℕ) → 2 * (j + length vs) + 1 ≤ size → list_all (placed size) (choices_from m h j vs) ≡ true
   choices_placed j [] size l = refl
   choices_placed j (v ∷ vs) size l = by (is_free (entry h v)) (choices_placed (j + 1) vs size (omega arith))
     where
-      by : (b : Bool) → every (placed size) (choices_from m h (j + 1) vs) ≡ true
-          → every (placed size) (cond b (choice_of m j v ∷ choices_from m h (j + 1) vs) (choices_from m h (j + 1) vs)) ≡ true
+      by : (b : Bool) → list_all (placed size) (choices_from m h (j + 1) vs) ≡ true
+          → list_all (placed size) (cond b (choice_of m j v ∷ choices_from m h (j + 1) vs) (choices_from m h (j + 1) vs)) ≡ true
       by true e = and_from _ _ (lt-ltb _ _ (omega arith)) e
       by false e = e
 

@@ -1,7 +1,7 @@
 -- Branching orders: which free option to branch on next. Assumes nothing.
 use Rattle.std.specs.Prelude.{◌≡◌, ℕ, ◌+◌, ◌≤◌, Bool, true, false, cond, ◌&&◌, ltb, List, [], ◌∷◌, map, Some, None, Option, nat_eq, nat_lt, slice_index_or}
+use Rattle.std.specs.List.{list_all, list_any}
 use Rattle.kinds.specs.Semiring.{Semiring, lesser}
-use Rattle.table.specs.Circuit.{every, some}
 use Rattle.table.specs.Facts.{Among}
 use Rattle.passes.specs.Holding.{filter}
 use Rattle.search.specs.declared.choice.Choice.{Choice}
@@ -19,10 +19,10 @@ numbers ls = map (λ l. l.option) ls
 -- each number is above those before it
 abbrev pub rising : List ℕ → Bool
 rising [] = true
-rising (x ∷ xs) = every (ltb x) xs && rising xs
+rising (x ∷ xs) = list_all (ltb x) xs && rising xs
 
 abbrev pub listed : ℕ → List ℕ → Bool
-listed v xs = some (nat_eq v) xs
+listed v xs = list_any (nat_eq v) xs
 
 -- an order is told of the free options by rising number, and names an option
 abbrev pub Order : Type 0 → Type 0

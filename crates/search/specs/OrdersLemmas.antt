@@ -1,10 +1,10 @@
 -- Number order and strongest lean are lawful, and what they answer. Assumes nothing.
 use Rattle.std.specs.Prelude.{◌≡◌, ℕ, ◌<◌, ◌≤◌, Bool, true, false, ltb, List, [], ◌∷◌, nat_lt, refl}
+use Rattle.std.specs.List.{list_all}
 use Rattle.std.proofs.Common.{sym, ap, subst, inl, inr, arith}
 use Rattle.std.proofs.lemmas.Bool.{both_ways, and_parts, and_from, cond-true, cond_both, ltb-true}
 use Rattle.kinds.specs.Semiring.{Semiring, Laws}
 use Rattle.kinds.proofs.Ranks.{Upto, upto_refl, upto_other}
-use Rattle.table.specs.Circuit.{every}
 use Rattle.table.specs.Facts.{Among}
 use Rattle.passes.specs.Holding.{filter}
 use Rattle.passes.proofs.Filters.{kept, filter_empty}
@@ -89,9 +89,9 @@ module _ {F : Type 0} {R : Semiring F} (laws : Laws R) where
   weakest_leads l [] r x (inl e) = subst (Before R l) e (record { upto = upto_refl laws (weaker R l); number = λ _. omega arith })
   weakest_leads l [] r x (inr m) = absurd m
   weakest_leads l (y ∷ ys) r x m =
-      let both = and_parts (every (ltb l.option) (numbers (y ∷ ys))) (rising (numbers (y ∷ ys))) r in
-      let above = and_parts (nat_lt l.option y.option) (every (ltb l.option) (numbers ys)) both.0 in
-      let rest = and_parts (every (ltb y.option) (numbers ys)) (rising (numbers ys)) both.1 in
+      let both = and_parts (list_all (ltb l.option) (numbers (y ∷ ys))) (rising (numbers (y ∷ ys))) r in
+      let above = and_parts (nat_lt l.option y.option) (list_all (ltb l.option) (numbers ys)) both.0 in
+      let rest = and_parts (list_all (ltb y.option) (numbers ys)) (rising (numbers ys)) both.1 in
       cond_both (R.upto (weaker R l) (weaker R y)) l y (λ z. Before R (weakest R z ys) x)
       (λ low. leads_behind (weakest R l ys) l y ys low (ltb-true _ _ above.0) (weakest_leads l ys (and_from _ _ above.1 rest.1)) x m)
       (λ high. leads_over (weakest R y ys) l y ys high (weakest_leads y ys both.1) x m)

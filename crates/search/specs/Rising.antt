@@ -1,9 +1,9 @@
 -- Lists of rising numbers, and the elements of lists. Assumes nothing.
 use Rattle.std.specs.Prelude.{◌≡◌, ℕ, ◌+◌, ◌<◌, Bool, true, false, List, [], ◌∷◌, map, nat_eq, nat_lt, refl}
+use Rattle.std.specs.List.{list_all}
 use Rattle.std.proofs.Common.{sym, ap, subst, inl, inr, arith}
 use Rattle.std.proofs.lemmas.List.{map-id}
 use Rattle.std.proofs.lemmas.Bool.{and_from, and_parts, cond_both, eq-eqb, eqb-true, lt-ltb, ltb-true}
-use Rattle.table.specs.Circuit.{every}
 use Rattle.table.specs.Facts.{Among}
 use Rattle.table.specs.Sound.{Roles, from, options}
 use Rattle.table.proofs.Listed.{every_at, some_at, some_among}
@@ -28,23 +28,23 @@ module _ {A : Type 0} (f : A → ℕ) where
   among_map x (y ∷ ys) (inr m) = inr (among_map x ys m)
 
   module _ (p : A → Bool) where
-    every_filter : (q : ℕ → Bool) (xs : List A) → every q (map f xs) ≡ true → every q (map f (filter p xs)) ≡ true
+    every_filter : (q : ℕ → Bool) (xs : List A) → list_all q (map f xs) ≡ true → list_all q (map f (filter p xs)) ≡ true
     every_filter q [] e = refl
     every_filter q (x ∷ xs) e =
-        let parts = and_parts (q (f x)) (every q (map f xs)) e in
-        let rest : every q (map f (filter p xs)) ≡ true = every_filter q xs parts.1 in
-        cond_both (p x) (x ∷ filter p xs) (filter p xs) (λ ys. every q (map f ys) ≡ true) (λ _. and_from _ _ parts.0 rest) (λ _. rest)
+        let parts = and_parts (q (f x)) (list_all q (map f xs)) e in
+        let rest : list_all q (map f (filter p xs)) ≡ true = every_filter q xs parts.1 in
+        cond_both (p x) (x ∷ filter p xs) (filter p xs) (λ ys. list_all q (map f ys) ≡ true) (λ _. and_from _ _ parts.0 rest) (λ _. rest)
 
     pub rising_filter : (xs : List A) → rising (map f xs) ≡ true → rising (map f (filter p xs)) ≡ true
     rising_filter [] e = refl
     rising_filter (x ∷ xs) e =
-        let parts = and_parts (every (nat_lt (f x)) (map f xs)) (rising (map f xs)) e in
+        let parts = and_parts (list_all (nat_lt (f x)) (map f xs)) (rising (map f xs)) e in
         let rest : rising (map f (filter p xs)) ≡ true = rising_filter xs parts.1 in
         cond_both (p x) (x ∷ filter p xs) (filter p xs) (λ ys. rising (map f ys) ≡ true)
         (λ _. and_from _ _ (every_filter (nat_lt (f x)) xs parts.0) rest)
         (λ _. rest)
 
-from_above : (j i : ℕ) → j < i → (rs : Roles) → every (nat_lt j) (from i true rs) ≡ true
+from_above : (j i : ℕ) → j < i → (rs : Roles) → list_all (nat_lt j) (from i true rs) ≡ true
 from_above j i h [] = refl
 from_above j i h (true ∷ rs) = and_from _ _ (lt-ltb j i h) (from_above j (i + 1) (omega arith) rs)
 from_above j i h (false ∷ rs) = from_above j (i + 1) (omega arith) rs

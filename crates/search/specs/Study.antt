@@ -1,6 +1,7 @@
 -- The calls of a study: which refusals can meet them, and what follows. Assumes nothing.
 use Rattle.std.specs.Prelude.{ℕ, ◌+◌, ◌*◌, Bool, cond, not, ◌&&◌, List, [], ◌∷◌, length, Some, None, Ok, Err, Option, Result, nat_lt}
-use Rattle.table.specs.Circuit.{Shape, some}
+use Rattle.std.specs.List.{list_any}
+use Rattle.table.specs.Circuit.{Shape}
 use Rattle.table.specs.Sound.{Roles, is_option, options, known, up_to}
 use Rattle.passes.specs.Holding.{Entries, entry, is_free}
 use Rattle.passes.specs.Marks.{entry_at}
@@ -43,7 +44,7 @@ module _ (rs : Roles) where
 
   -- a variable is held that is not an option
   abbrev pub stray_hold : Entries → Bool × Fault
-  stray_hold h = (some (λ v. not (is_option rs v) && not (is_free (entry h v))) (up_to 1 (length h)), StrayHold)
+  stray_hold h = (list_any (λ v. not (is_option rs v) && not (is_free (entry h v))) (up_to 1 (length h)), StrayHold)
 
   abbrev pub no_option : ℕ → Bool × Fault
   no_option v = (not (is_option rs v), NoOption v)
@@ -52,7 +53,7 @@ module _ (rs : Roles) where
   no_chance v = (not (known (length rs) v && not (is_option rs v)), NoChance v)
 
   abbrev pub still_free : Entries → Bool × Fault
-  still_free h = (some (λ v. is_free (entry h v)) (options rs), StillFree)
+  still_free h = (list_any (λ v. is_free (entry h v)) (options rs), StillFree)
 
 abbrev pub held_already : Entries → ℕ → Bool × Fault
 held_already h v = (not (is_free (entry_at h v)), Held v)

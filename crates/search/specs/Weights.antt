@@ -2,12 +2,13 @@
 --
 -- A text is a list of lines, a line a list of fields: the letter W, a chance's number, its on weight, its off weight.
 use Rattle.std.specs.Prelude.{ℕ, ◌+◌, ◌*◌, Bool, true, cond, ◌&&◌, List, [], ◌∷◌, length, replicate, Some, None, Ok, Err, Option, Result, ◌==◌, slice_index_or}
+use Rattle.std.specs.List.{list_all}
 use Rattle.std.specs.Str.{bytes_eq}
 use Rattle.text.specs.declared.fault.Fault.TheVariants as text_fault
 use Rattle.text.specs.declared.fault.Reason.{Reason}
 use Rattle.text.specs.declared.fault.Reason.TheVariants as reason
 use Rattle.text.specs.Format.{Said, then, provided, number_field, overwritten}
-use Rattle.text.specs.Lines.{every, printable, lines, fields}
+use Rattle.text.specs.Lines.{printable, lines, fields}
 use Rattle.table.specs.declared.fault.Fault.TheVariants as table_fault
 use Rattle.table.specs.Sound.{Roles}
 use Rattle.search.specs.declared.fault.Fault.{Fault}
@@ -24,7 +25,7 @@ field_at k l = slice_index_or (fields l) k []
 
 -- tabs and bytes 32 to 126, in four fields, of which the first is the letter W
 abbrev pub is_weight_line : List ℕ → Bool
-is_weight_line l = every printable l && length (fields l) == 4 && bytes_eq (field_at 0 l) (87 ∷ [])
+is_weight_line l = list_all printable l && length (fields l) == 4 && bytes_eq (field_at 0 l) (87 ∷ [])
 
 -- a refusal of a line's form is the text's
 abbrev pub in_text : Reason → ℕ → Fault

@@ -1,6 +1,6 @@
 //! Branching orders: which free option select branches on next.
 ghost use Rattle.std.specs.Prelude.{◌≡◌, ℕ, ◌<◌, true, List, length};
-ghost use Rattle.table.specs.Circuit.{every};
+ghost use Rattle.std.specs.List.{list_all};
 ghost use Rattle.search.specs.Orders.{Lean, Lawful, rising, options_of, told, placed};
 
 use crate::choice::Choice;
@@ -16,7 +16,7 @@ pub trait BranchingOrder<K: Figure> {
     fn pick(&self, free: &[Choice], part: &[K]) -> u16
         requires some { 0 < length free.now }
         requires rising { rising (options_of free.now) ≡ true }
-        requires placed { every (placed (length part.now)) free.now ≡ true }
+        requires placed { list_all (placed (length part.now)) free.now ≡ true }
         ensures { result ≡ picks self.now (told K.ring part.now free.now) };
 
     ghost names: { (s : Self) → Lawful (picks s) };

@@ -1,4 +1,5 @@
 -- What the sets of the nodes before a node say of it is what the circuit says. Assumes nothing.
+use Rattle.std.specs.List.{list_all, list_any}
 use Rattle.std.proofs.Common.{◌≡◌, ℕ, ◌<◌, ◌≤◌, Bool, true, false, cond, ◌&&◌, ◌||◌, eqb, ltb, List, [], ◌∷◌, length, get_or, take, None, Option, sym, refl, ap, ◌∙◌, ap₂, arith}
 use mathlib.Core.Path.{fun_ext}
 use lib.Bits.{bit_and, bit_or}
@@ -11,7 +12,7 @@ use Rattle.text.specs.declared.record.Form.TheVariants.{Literal, And, Fork, True
 use Rattle.text.specs.declared.record.Node.{Node}
 use Rattle.table.specs.declared.fault.Flaw.{Flaw}
 use Rattle.table.specs.declared.fault.Flaw.TheVariants as flaw
-use Rattle.table.specs.Circuit.{Shape, lit, all, fork, top, bottom, Vars, every, some, mention, mentions}
+use Rattle.table.specs.Circuit.{Shape, lit, all, fork, top, bottom, Vars, mention, mentions}
 use Rattle.table.specs.Sound.{Roles, known, none, is_leaf, has_leaf, unless, flaw_at}
 use Rattle.table.specs.Nodes.{shape_by, shape, shapes}
 use Rattle.table.specs.Sets.{mask}
@@ -63,8 +64,8 @@ literal_set n x false = sym (mask_none n) ∙ ap (mask n) (fun_ext (λ y. sym (a
 module _ (rs : Roles) (ss : List Shape) (i : ℕ) (before : List NodeSets) (known_is : Known rs ss i before) where
   and_same : (cs : List ℕ) → and_flaw before cs ≡ flaw_at rs ss (mentions ss) i (all cs)
   and_same cs =
-      ap (λ k. unless (every (under k) cs) flaw.Order (unless (apart_masks 0 before cs) flaw.Shared None)) known_is.size
-      ∙ unless_same (every (under i) cs) flaw.Order _ _ (λ t.
+      ap (λ k. unless (list_all (under k) cs) flaw.Order (unless (apart_masks 0 before cs) flaw.Shared None)) known_is.size
+      ∙ unless_same (list_all (under i) cs) flaw.Order _ _ (λ t.
       ap (λ b. unless b flaw.Shared None) (apart_is (length rs) i (mentions ss) before (λ c l. ap (λ s. s.mentions) (known_is.are c l)) cs t))
 
   fork_same : (v a b : ℕ) → fork_flaw (length rs) (chance_mask rs) before v a b ≡ flaw_at rs ss (mentions ss) i (fork v a b)
@@ -146,12 +147,12 @@ module _ (rs : Roles) (store : List ℕ) (ns : List Node) where
         known_is.are c l
         ∙ ap₂ (sets_with rs ss) (sym (get_or-take i (mentions ss) c none l)) (get_or-map (shape store) ns c blank bottom (omega arith))
 
-    children_seen : (m a b : Vars) (cs : List ℕ) → every (under i) cs ≡ true
+    children_seen : (m a b : Vars) (cs : List ℕ) → list_all (under i) cs ≡ true
         → with_children (sets n m a b) ns before cs
-        ≡ sets n (λ x. m x || some (λ c. get_or done c none x) cs) (λ x. a x || some (λ c. is_leaf x true (get_or ss c bottom)) cs) (λ x. b x || some (λ c. is_leaf x false (get_or ss c bottom)) cs)
+        ≡ sets n (λ x. m x || list_any (λ c. get_or done c none x) cs) (λ x. a x || list_any (λ c. is_leaf x true (get_or ss c bottom)) cs) (λ x. b x || list_any (λ c. is_leaf x false (get_or ss c bottom)) cs)
     children_seen m a b [] e = same_sets n m a b _ _ _ (λ x. sym (or-false (m x))) (λ x. sym (or-false (a x))) (λ x. sym (or-false (b x)))
     children_seen m a b (c ∷ cs) e =
-        let parts = and_parts (ltb c i) (every (under i) cs) e in
+        let parts = and_parts (ltb c i) (list_all (under i) cs) e in
         let l = ltb-true c i parts.0 in
         let node : Node = get_or ns c blank in
         let d : Vars = get_or done c none in
@@ -169,7 +170,7 @@ module _ (rs : Roles) (store : List ℕ) (ns : List Node) where
     sets_same (lit v on) e = literal_is n v on (known_bounds n v (unless_none (known n v) flaw.Variable None e))
     sets_same (all cs) e =
         ap (λ s. with_children s ns before cs) (nothing_is n)
-        ∙ children_seen none none none cs (ap (λ k. every (under k) cs) (sym known_is.size) ∙ unless_none (every (under (length before)) cs) flaw.Order _ e)
+        ∙ children_seen none none none cs (ap (λ k. list_all (under k) cs) (sym known_is.size) ∙ unless_none (list_all (under (length before)) cs) flaw.Order _ e)
     sets_same (fork v a b) e =
         let both = and_parts _ _ (ap (λ k. ltb a k && ltb b k) (sym known_is.size) ∙ unless_none (ltb a (length before) && ltb b (length before)) flaw.Order _ e) in
         λ j. record {

@@ -3,7 +3,7 @@ use Rattle.std.proofs.Common.{◌≡◌, ℕ, ◌+◌, ◌*◌, ◌/◌, ◌%◌
 use lib.Bits.{bit_and, bit_or, or_step}
 use Rattle.std.proofs.Math.Bool.{and-true}
 use Rattle.std.specs.Int.Bits.{or_zero_r}
-use Rattle.std.specs.List.{fold}
+use Rattle.std.specs.List.{fold, list_all}
 use Rattle.std.proofs.lemmas.List.Sums.{fold-append}
 use Rattle.std.proofs.lemmas.List.{reverse-append, length-map, length-take}
 use Rattle.text.specs.declared.record.Role.{Role}
@@ -11,7 +11,7 @@ use Rattle.text.specs.declared.record.Role.TheVariants as role
 use Rattle.text.specs.declared.record.Variable.{Variable}
 use Rattle.text.specs.declared.record.Variables.{Variables}
 use Rattle.text.specs.Format.{listed}
-use Rattle.table.specs.Circuit.{Vars, every, same}
+use Rattle.table.specs.Circuit.{Vars, same}
 use Rattle.table.specs.Sound.{Roles, from, alike}
 use Rattle.table.specs.Nodes.{roles_of, is_option_role}
 use Rattle.table.specs.Sets.{packed}
@@ -90,7 +90,7 @@ all_on true = refl
 all_on false = refl
 
 -- the root mentions every chance
-pub total_is : (i : ℕ) (rs : Roles) (m : Vars) → eqb (bit_and (packed i m (length rs)) (chance_mask rs)) (chance_mask rs) ≡ every m (from i false rs)
+pub total_is : (i : ℕ) (rs : Roles) (m : Vars) → eqb (bit_and (packed i m (length rs)) (chance_mask rs)) (chance_mask rs) ≡ list_all m (from i false rs)
 unfolding packed chance_mask
 total_is i [] m = refl
 total_is i (true ∷ rs) m =

@@ -1,9 +1,10 @@
 -- What each test of a node decides. Assumes nothing.
+use Rattle.std.specs.List.{list_all}
 use Rattle.std.proofs.Common.{◌≡◌, ℕ, zero, suc, ◌+◌, ◌<◌, ◌≤◌, Bool, true, false, not, ◌&&◌, eqb, ltb, leb, ◌⊎◌, List, [], ◌∷◌, length, get_or, Decides, All, refl, inl, inr, not-suc-le-zero, arith}
 use Rattle.std.proofs.lemmas.List.Elements.{All-get_or, All-from_get_or}
 use Rattle.std.proofs.lemmas.Bool.{false≢true, leb-true, le-leb, cases_eq}
 use Rattle.std.proofs.lemmas.Bool.Decides.{Decides-by_and, Decides-like, Decides-and, Decides-ltb, Decides-eqb}
-use Rattle.table.specs.Circuit.{Shape, lit, all, fork, top, bottom, Vars, every, same}
+use Rattle.table.specs.Circuit.{Shape, lit, all, fork, top, bottom, Vars, same}
 use Rattle.table.specs.Sound.{Roles, none, is_leaf, has_leaf, up_to, disjoint, apart, known}
 use Rattle.table.specs.Facts.{Among, node, Known, HasLiteral}
 use Rattle.table.proofs.Listed.{decides_same, decides_every, some_at, some_among}
@@ -70,6 +71,6 @@ module _ (vs : List ℕ) (ms : List Vars) where
   decides_apart (c ∷ cs) =
       Decides-like (apart vs ms (c ∷ cs)) (apart_more c cs)
       (λ h. (All-from_get_or (λ d. Disjoint vs (get_or ms c none) (get_or ms d none)) cs 0 (λ k l. h 0 (suc k) (omega arith) (omega arith)), λ j k l m. h (suc j) (suc k) (omega arith) (omega arith)))
-      (Decides-and (every (λ d. disjoint vs (get_or ms c none) (get_or ms d none)) cs) (apart vs ms cs)
-      (Decides-by_and _ _ (every (λ d. disjoint vs (get_or ms c none) (get_or ms d none))) (λ d. decides_disjoint vs (get_or ms c none) (get_or ms d none)) refl (λ _ _. refl) cs)
+      (Decides-and (list_all (λ d. disjoint vs (get_or ms c none) (get_or ms d none)) cs) (apart vs ms cs)
+      (Decides-by_and _ _ (list_all (λ d. disjoint vs (get_or ms c none) (get_or ms d none))) (λ d. decides_disjoint vs (get_or ms c none) (get_or ms d none)) refl (λ _ _. refl) cs)
       (decides_apart cs))

@@ -1,9 +1,10 @@
 -- A circuit is found sound if it is proper, and only then. Assumes nothing.
+use Rattle.std.specs.List.{list_all}
 use Rattle.std.proofs.Common.{◌≡◌, ℕ, zero, suc, ◌+◌, ◌-◌, ◌<◌, Bool, true, false, List, [], ◌∷◌, length, get_or, Some, None, Decides, Option, refl, subst, inl, inr, add-zero, zero-add, arith}
 use Rattle.std.proofs.lemmas.Bool.{false≢true, cases_Bool, cond-true, cond-false}
 use Rattle.std.proofs.lemmas.Bool.Decides.{Decides-and, Decides-ltb}
 use Rattle.table.specs.declared.fault.Flaw.{Flaw}
-use Rattle.table.specs.Circuit.{Shape, lit, all, fork, top, bottom, every, mentions}
+use Rattle.table.specs.Circuit.{Shape, lit, all, fork, top, bottom, mentions}
 use Rattle.table.specs.Sound.{Roles, Verdict, sound, chances, up_to, children, unless, flaw_first, flaw_at, verdict_from, verdict}
 use Rattle.table.specs.Facts.{Among, node, about, Ordered, Known, Total, KnownVariables, HasLiteral, Proper, Deterministic, LocalTruth}
 use Rattle.table.proofs.Listed.{decides_same, decides_every}
@@ -51,7 +52,7 @@ module _ (rs : Roles) (ss : List Shape) where
   clear_at i top = (λ _. tt, λ _. refl)
   clear_at i bottom = (λ _. tt, λ _. refl)
 
-  decides_total : Decides (every (about ss (length ss - 1)) (chances rs)) (Total rs ss)
+  decides_total : Decides (list_all (about ss (length ss - 1)) (chances rs)) (Total rs ss)
   decides_total = decides_every _ _ (λ x. (λ e. e, λ e. e)) (chances rs)
 
   fine_from : (k : ℕ) (xs : List Shape) → verdict_from rs ss (mentions ss) k xs ≡ sound → (j : ℕ) → Fine (k + j) (node xs j)
@@ -64,7 +65,7 @@ module _ (rs : Roles) (ss : List Shape) where
 
   total_from : (k : ℕ) (xs : List Shape) → verdict_from rs ss (mentions ss) k xs ≡ sound → Total rs ss
   unfolding verdict_from
-  total_from k [] e = decides_total.0 (elim (cases_Bool (every (about ss (length ss - 1)) (chances rs))) [ inl t ↦ t | inr f ↦ cc (cond-false _ sound _ f) ])
+  total_from k [] e = decides_total.0 (elim (cases_Bool (list_all (about ss (length ss - 1)) (chances rs))) [ inl t ↦ t | inr f ↦ cc (cond-false _ sound _ f) ])
   total_from k (x ∷ xs) e = total_from (k + 1) xs (clear_first k (flaw_at rs ss (mentions ss) k x) (verdict_from rs ss (mentions ss) (k + 1) xs) e).1
 
   sound_from : Total rs ss → (k : ℕ) (xs : List Shape) → ((j : ℕ) → Fine (k + j) (node xs j)) → verdict_from rs ss (mentions ss) k xs ≡ sound

@@ -1,4 +1,5 @@
 -- The check, node by node. Assumes nothing.
+use Rattle.std.specs.List.{list_all}
 use Rattle.std.proofs.Common.{◌≡◌, ℕ, ◌+◌, ◌-◌, ◌<◌, ◌≤◌, ◌⊎◌, inl, inr, true, false, cond, eqb, List, ◌++◌, map, length, get_or, take, drop, set, replicate, Some, None, Ok, Err, Option, sym, ap, ◌∙◌, ap₂, arith}
 use lib.Bits.{bit_and}
 use Rattle.std.proofs.lemmas.Bool.{cases_eq, cond-true, cond-false, eq-eqb, ne_eqb, le-leb, lt-leb}
@@ -14,7 +15,7 @@ use Rattle.text.specs.Format.{listed, options}
 use Rattle.table.specs.declared.fault.Fault.TheVariants as fault
 use Rattle.table.specs.declared.fault.Flaw.{Flaw}
 use Rattle.table.specs.declared.fault.Flaw.TheVariants as flaw
-use Rattle.table.specs.Circuit.{Shape, bottom, Vars, every, mention, mentions}
+use Rattle.table.specs.Circuit.{Shape, bottom, Vars, mention, mentions}
 use Rattle.table.specs.Sound.{Roles, Verdict, sound, flawed, none, chances, flaw_first, flaw_at, verdict_from, verdict}
 use Rattle.table.specs.Nodes.{shape, shapes, roles_of}
 use Rattle.table.specs.Sets.{mask, masks, mentions_of}
@@ -128,14 +129,14 @@ module _ (rs : Roles) (cs : List ℕ) (ns : List Node) (i : ℕ) (known : List N
   last_is : length whole - 1 ≡ length ns - 1
   last_is = ap (λ n. n - 1) count
 
-  final : verdict rs whole ≡ cond (every top_set (chances rs)) sound (flawed flaw.Missing (length whole - 1))
+  final : verdict rs whole ≡ cond (list_all top_set (chances rs)) sound (flawed flaw.Missing (length whole - 1))
   unfolding verdict_from
   final = sym (sym (at_drop_all (verdict_from rs whole (mentions whole) i) whole i (let e = count in omega arith)) ∙ inv.rest)
 
   root_set : (get_or known (length ns - 1) nothing).mentions ≡ mask (length rs) top_set
   root_set = ap (λ s. s.mentions) (inv.are (length ns - 1) (omega arith)) ∙ ap (λ n. mask (length rs) (get_or (mentions whole) n none)) (sym last_is)
 
-  root_test : eqb (bit_and (get_or known (length ns - 1) nothing).mentions k) k ≡ every top_set (chances rs)
+  root_test : eqb (bit_and (get_or known (length ns - 1) nothing).mentions k) k ≡ list_all top_set (chances rs)
   root_test = ap₂ (λ x y. eqb (bit_and x y) y) root_set k-is ∙ total_is 1 rs top_set
 
   pub misses : (bit_and (get_or known (length ns - 1) nothing).mentions k ≡ k → ⊥) → Err (fault.Node flaw.Missing (length ns - 1)) ≡ answer_by rs (shapes cs ns) (verdict rs (shapes cs ns))

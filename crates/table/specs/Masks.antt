@@ -1,5 +1,6 @@
 -- What the check computes of a node from the sets of the nodes before it. Assumes nothing.
 use Rattle.std.specs.Prelude.{ℕ, ◌+◌, ◌-◌, ◌*◌, ◌^◌, Bool, true, false, cond, not, ◌&&◌, List, [], ◌∷◌, ◌++◌, map, replicate, length, None, Option, ◌==◌, bit_and, bit_or, nat_lt, slice_index_or}
+use Rattle.std.specs.List.{list_all}
 use Rattle.text.specs.declared.record.Form.{Form}
 use Rattle.text.specs.declared.record.Form.TheVariants.{Literal, And, Fork, True, False}
 use Rattle.text.specs.declared.record.Node.{Node}
@@ -9,7 +10,7 @@ use Rattle.table.specs.declared.fault.Flaw.{Flaw}
 use Rattle.table.specs.declared.fault.Flaw.TheVariants as flaw
 use Rattle.table.specs.declared.known.NodeSets.{NodeSets}
 use Rattle.table.specs.declared.mentions.Mentions.{Mentions}
-use Rattle.table.specs.Circuit.{Shape, lit, all, fork, top, bottom, every}
+use Rattle.table.specs.Circuit.{Shape, lit, all, fork, top, bottom}
 use Rattle.table.specs.Sound.{Roles, known, unless}
 
 abbrev pub under : ℕ → ℕ → Bool
@@ -65,7 +66,7 @@ with_children seen ns before (c ∷ cs) =
 
 -- the first flaw of an and of the nodes cs
 abbrev pub and_flaw : List NodeSets → List ℕ → Option Flaw
-and_flaw before cs = unless (every (under (length before)) cs) flaw.Order (unless (apart_masks 0 before cs) flaw.Shared None)
+and_flaw before cs = unless (list_all (under (length before)) cs) flaw.Order (unless (apart_masks 0 before cs) flaw.Shared None)
 
 -- the first flaw of a fork, with n variables, the set of the chances, and what is known of the nodes before it
 abbrev pub fork_flaw : (n chances : ℕ) (before : List NodeSets) (v a b : ℕ) → Option Flaw
@@ -86,7 +87,7 @@ flaw_by n chances before bottom = None
 -- whether a literal is of one of n variables, and the children are among the first i nodes
 abbrev pub steady : (n i : ℕ) → Shape → Bool
 steady n i (lit v b) = known n v
-steady n i (all cs) = every (under i) cs
+steady n i (all cs) = list_all (under i) cs
 steady n i (fork v a b) = nat_lt a i && nat_lt b i
 steady n i top = true
 steady n i bottom = true

@@ -1,8 +1,9 @@
 -- Which circuits are sound: the refusals of a node, and the first that fits. Assumes nothing.
 use Rattle.std.specs.Prelude.{ℕ, zero, suc, ◌+◌, ◌-◌, Bool, true, false, cond, not, ◌&&◌, ltb, List, [], ◌∷◌, length, Some, None, Option, ◌==◌, nat_le, nat_lt, slice_index_or}
+use Rattle.std.specs.List.{list_all, list_any}
 use Rattle.table.specs.declared.fault.Flaw.{Flaw}
 use Rattle.table.specs.declared.fault.Flaw.TheVariants as flaw
-use Rattle.table.specs.Circuit.{Shape, lit, all, fork, top, bottom, Vars, every, some, same, mentions}
+use Rattle.table.specs.Circuit.{Shape, lit, all, fork, top, bottom, Vars, same, mentions}
 
 -- whether each of the variables, by number from 1, is an option; the others are chances
 abbrev pub Roles : Type 0
@@ -42,7 +43,7 @@ is_leaf v b bottom = false
 -- a branch has a literal if it is that leaf, or an and with that leaf among its children
 abbrev pub has_leaf : List Shape → ℕ → Bool → Shape → Bool
 has_leaf ss v b (lit x on) = is_leaf v b (lit x on)
-has_leaf ss v b (all cs) = some (λ c. is_leaf v b (slice_index_or ss c bottom)) cs
+has_leaf ss v b (all cs) = list_any (λ c. is_leaf v b (slice_index_or ss c bottom)) cs
 has_leaf ss v b (fork x p q) = false
 has_leaf ss v b top = false
 has_leaf ss v b bottom = false
@@ -54,16 +55,16 @@ up_to i (suc n) = i ∷ up_to (i + 1) n
 
 -- no variable of vs is in both sets
 abbrev pub disjoint : List ℕ → Vars → Vars → Bool
-disjoint vs a b = every (λ v. not (a v && b v)) vs
+disjoint vs a b = list_all (λ v. not (a v && b v)) vs
 
 -- no two of the nodes cs mention one variable of vs
 abbrev pub apart : List ℕ → List Vars → List ℕ → Bool
 apart vs ms [] = true
-apart vs ms (c ∷ cs) = every (λ d. disjoint vs (slice_index_or ms c none) (slice_index_or ms d none)) cs && apart vs ms cs
+apart vs ms (c ∷ cs) = list_all (λ d. disjoint vs (slice_index_or ms c none) (slice_index_or ms d none)) cs && apart vs ms cs
 
 -- on vs the two sets are one
 abbrev pub alike : List ℕ → Vars → Vars → Bool
-alike vs a b = every (λ v. same (a v) (b v)) vs
+alike vs a b = list_all (λ v. same (a v) (b v)) vs
 
 abbrev pub children : Shape → List ℕ
 children (lit v b) = []
@@ -99,7 +100,7 @@ module _ (rs : Roles) (ss : List Shape) where
   abbrev pub flaw_at : List Vars → ℕ → Shape → Option Flaw
   flaw_at ms i (lit v b) = unless (known (length rs) v) flaw.Variable None
   flaw_at ms i (all cs) =
-      unless (every (λ c. ltb c i) cs) flaw.Order (unless (apart (up_to 1 (length rs)) ms cs) flaw.Shared None)
+      unless (list_all (λ c. ltb c i) cs) flaw.Order (unless (apart (up_to 1 (length rs)) ms cs) flaw.Shared None)
   flaw_at ms i (fork v a b) =
       unless (nat_lt a i && nat_lt b i) flaw.Order
       (unless (known (length rs) v) flaw.Variable
@@ -110,7 +111,7 @@ module _ (rs : Roles) (ss : List Shape) where
 
   -- the first flaw of the nodes in order, from node i on; the root, which is last, must mention every chance
   unfoldable pub verdict_from : List Vars → ℕ → List Shape → Verdict
-  verdict_from ms i [] = cond (every (slice_index_or ms (length ss - 1) none) (chances rs)) sound (flawed flaw.Missing (length ss - 1))
+  verdict_from ms i [] = cond (list_all (slice_index_or ms (length ss - 1) none) (chances rs)) sound (flawed flaw.Missing (length ss - 1))
   verdict_from ms i (x ∷ xs) = flaw_first i (flaw_at ms i x) (verdict_from ms (i + 1) xs)
 
   abbrev pub verdict : Verdict

@@ -1,6 +1,6 @@
 //! Sets of variables as numbers: bit v - 1 is variable v.
 ghost use Rattle.std.specs.Prelude.{◌≡◌, ◌<◌, ◌≤◌, true, length, slice_index_or};
-ghost use Rattle.table.specs.Circuit.{every};
+ghost use Rattle.std.specs.List.{list_all};
 ghost use Rattle.table.specs.Sound.{known};
 ghost use Rattle.table.specs.Nodes.{no_node, stretch, roles_of};
 ghost use Rattle.table.specs.Masks.{under, bit, chance_bit, chance_mask, apart_masks, nothing, literal_sets, with_child, with_children};
@@ -47,14 +47,14 @@ fn chance_bit(role: Role) -> u64
 
 /// Whether each child's number is below the node's.
 pub(crate) fn all_below(children: &[u16], node: usize) -> bool
-    ensures { result ≡ every (under node) children.now }
+    ensures { result ≡ list_all (under node) children.now }
 {
     children.iter().all(|c| (*c as usize) < node)
 }
 
 /// Whether no two children mention one variable.
 pub(crate) fn all_apart(children: &[u16], before: &[NodeSets]) -> bool
-    requires { every (under (length before.now)) children.now ≡ true }
+    requires { list_all (under (length before.now)) children.now ≡ true }
     ensures { result ≡ apart_masks 0 before.now children.now }
 {
     let mut seen = 0;
@@ -84,7 +84,7 @@ impl NodeSets {
 
     /// What is known of an and.
     pub(crate) fn of_and(children: &[u16], nodes: &[Node], before: &[NodeSets]) -> NodeSets
-        requires below { every (under (length before.now)) children.now ≡ true }
+        requires below { list_all (under (length before.now)) children.now ≡ true }
         requires within { length before.now ≤ length nodes.now }
         ensures { result ≡ with_children nothing nodes.now before.now children.now }
     {

@@ -1,4 +1,5 @@
 -- The reader line by line. Assumes nothing.
+use Rattle.std.specs.List.{list_all}
 use Rattle.std.proofs.Common.{◌≡◌, ℕ, ◌+◌, ◌-◌, ◌<◌, ◌≤◌, true, false, ◌&&◌, leb, List, [], ◌∷◌, ◌++◌, length, take, drop, Ok, Err, Result, inl, inr, sym, refl, ap, ◌∙◌, ap₂, subst, arith}
 use Rattle.std.proofs.lemmas.List.{length-take-le, take-append-drop, drop-drop, length-drop}
 use Rattle.std.proofs.lemmas.Bool.{cond-true, cond-false, and_from, le-leb}
@@ -12,7 +13,7 @@ use Rattle.text.specs.declared.kind.Section.TheVariants as section
 use Rattle.text.specs.declared.progress.Progress.{Progress}
 use Rattle.text.specs.declared.record.Node.{Node}
 use Rattle.text.specs.declared.record.Contents.{Contents}
-use Rattle.text.specs.Lines.{every, printable, index_of, lines, fields}
+use Rattle.text.specs.Lines.{printable, index_of, lines, fields}
 use Rattle.text.specs.Format.{Rooms, rooms_for, Sofar, Reading, header_says, variable_says, entry_says, fitting, is_header, is_variable, section_at, kind_of, all_read, is_complete, by_section, by_fields, line_says, accepted, refused, read_on, nothing_yet, file_says, overwritten}
 use Rattle.text.specs.Steps.{sofar, rooms_of, Taken, first_says}
 use Rattle.text.proofs.Cuts.{cut}
@@ -38,7 +39,7 @@ module _ (rooms : Rooms) (s : Sofar) (size : ℕ) (t : Sofar) where
 
 pub line_place : (rooms : Rooms) (s : Sofar) (l : List ℕ) (t : Sofar) → line_says rooms s l ≡ Ok t → t.place ≡ s.place + (length l + 1)
 unfolding line_says
-line_place rooms s l t e = fields_place rooms s (length l) t (fields l) (provided_ok (every printable l) reason.Line _ t e).1
+line_place rooms s l t e = fields_place rooms s (length l) t (fields l) (provided_ok (list_all printable l) reason.Line _ t e).1
 
 -- One step of the reading.
 module _ (rooms : Rooms) (s : Sofar) where

@@ -1,4 +1,5 @@
 -- What a line says in each section. Assumes nothing.
+use Rattle.std.specs.List.{list_all}
 use Rattle.std.proofs.Common.{◌≡◌, ℕ, ◌≤◌, true, false, List, [], ◌∷◌, length, get_or, drop, Ok, Err, Result, sym, refl, ap, ◌∙◌, ap₂, subst, arith}
 use Rattle.std.proofs.lemmas.Bool.{cond-true, cond-false}
 use Rattle.text.specs.declared.fault.Reason.{Reason}
@@ -8,7 +9,7 @@ use Rattle.text.specs.declared.kind.Kind.TheVariants as kind
 use Rattle.text.specs.declared.kind.Section.{Section}
 use Rattle.text.specs.declared.kind.Section.TheVariants as section
 use Rattle.text.specs.declared.progress.Progress.{Progress}
-use Rattle.text.specs.Lines.{every, printable, fields}
+use Rattle.text.specs.Lines.{printable, fields}
 use Rattle.text.specs.Format.{Said, Rooms, Sofar, listed, section_at, kind_of, is_header, is_variable, by_section, by_fields, line_says}
 use Rattle.text.specs.Steps.{sofar, rooms_of, says_in, says, Steps, Taken, HasStoresOf}
 use Rattle.text.proofs.Cuts.{some_field}
@@ -51,15 +52,15 @@ said_by said says s u (Err x) e h = record { moves = (sym e ∙ h.moves.0, h.mov
 
 -- A line l after the progress s.
 module _ (s : Progress) (l : List ℕ) where
-  pub unprintable : every printable l ≡ false → says l s ≡ Err reason.Line
+  pub unprintable : list_all printable l ≡ false → says l s ≡ Err reason.Line
   unfolding line_says
-  unprintable h = cond-false (every printable l) _ _ h
+  unprintable h = cond-false (list_all printable l) _ _ h
 
-  module _ (clean : every printable l ≡ true) (t : Section) (at : t ≡ section_at s.header s.line (length (listed s.variables))) (k : Kind) (is : k ≡ kind_of (get_or (fields l) 0 [])) where
+  module _ (clean : list_all printable l ≡ true) (t : Section) (at : t ≡ section_at s.header s.line (length (listed s.variables))) (k : Kind) (is : k ≡ kind_of (get_or (fields l) 0 [])) where
     says_by : says l s ≡ says_in t k l s
     unfolding line_says
     says_by =
-        cond-true (every printable l) _ _ clean ∙ by_first (rooms_of s) (sofar s) (length l) (fields l) (some_field l)
+        cond-true (list_all printable l) _ _ clean ∙ by_first (rooms_of s) (sofar s) (length l) (fields l) (some_field l)
         ∙ ap₂ (λ u j. by_section (rooms_of s) (sofar s) (length l) u j (drop 1 (fields l))) (sym at) (sym is)
 
     -- what is done for the section and the kind is done for the line

@@ -4,7 +4,7 @@
 -- comes the header, then a line for each variable, then a line for each node.
 use Rattle.std.specs.Prelude.{ℕ, ◌+◌, min, Bool, true, false, cond, not, ◌&&◌, ◌||◌, List, [], ◌∷◌, ◌++◌, map, length, take, drop, replicate, is_some, Some, None, Ok, Err, Option, Result, ◌==◌, nat_le, nat_lt}
 use Rattle.std.proofs.Math.Nat.{min-le_right}
-use Rattle.std.specs.List.{list_any}
+use Rattle.std.specs.List.{list_any, list_all}
 use Rattle.std.specs.Option.{ok_or, option_map, unwrap_or}
 use Rattle.std.specs.Str.{bytes_eq}
 use Rattle.text.specs.declared.fault.Reason.{Reason}
@@ -25,7 +25,7 @@ use Rattle.text.specs.declared.record.Variable.{Variable}
 use Rattle.text.specs.declared.record.Variables.{Variables}
 use Rattle.text.specs.declared.record.Header.{Header}
 use Rattle.text.specs.declared.record.Contents.{Contents}
-use Rattle.text.specs.Lines.{every, printable, lines, fields}
+use Rattle.text.specs.Lines.{printable, lines, fields}
 use Rattle.text.specs.Numerals.{number}
 
 -- what a part of a line says, or the first reason to refuse the line
@@ -170,7 +170,7 @@ number_or_zero f = unwrap_or (number f) 0
 
 -- the numbers that fields write, if each has the form
 abbrev pub numbers : List (List ℕ) → Said (List ℕ)
-numbers fs = provided (every is_number fs) reason.Number (Ok (map number_or_zero fs))
+numbers fs = provided (list_all is_number fs) reason.Number (Ok (map number_or_zero fs))
 
 abbrev pub and_says : List (List ℕ) → Said Entry
 and_says [] = Err reason.Line
@@ -276,7 +276,7 @@ by_fields rooms s size [] = Err reason.Line
 by_fields rooms s size (f ∷ fs) = by_section rooms s size (section_at s.header s.line (length s.variables)) (kind_of f) fs
 
 unfoldable pub line_says : Rooms → Sofar → List ℕ → Said Sofar
-line_says rooms s l = provided (every printable l) reason.Line (by_fields rooms s (length l) (fields l))
+line_says rooms s l = provided (list_all printable l) reason.Line (by_fields rooms s (length l) (fields l))
 
 -- A file: what it leaves in the stores, from their first place on, and the answer.
 pub record Reading : Type 0 where
@@ -312,7 +312,7 @@ file_says rooms bytes =
 
 -- whether a variable's name has only bytes that may stand in a line
 abbrev pub named_printable : Variable → Bool
-named_printable v = every printable (spelled v.name)
+named_printable v = list_all printable (spelled v.name)
 
 -- a store after its first places were written
 abbrev pub overwritten : {A : Type 0} → List A → List A → List A

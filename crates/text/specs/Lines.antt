@@ -1,10 +1,6 @@
 -- A text as lines, and a line as fields. Assumes nothing.
 use Rattle.std.specs.Prelude.{◌≡◌, ℕ, suc, ◌+◌, ◌<◌, length, drop, Bool, cond, ◌&&◌, ◌||◌, List, [], ◌∷◌, ◌==◌, nat_le}
-use Rattle.std.specs.List.{list_all, slice_split}
-
--- whether a test holds of every element
-abbrev pub every : {A : Type 0} → (A → Bool) → List A → Bool
-every p xs = list_all p xs
+use Rattle.std.specs.List.{slice_split}
 
 -- a byte that may stand in a line: a tab, or 32 to 126
 abbrev pub printable : ℕ → Bool

@@ -1,6 +1,7 @@
 //! The bytes and the fields of a line.
 ghost use Rattle.std.specs.Prelude.{◌≡◌, ◌≤◌, [], length, slice_index_or, MatchOption};
-ghost use Rattle.text.specs.Lines.{every, printable, index_of, lines, fields, BeginsWithLine};
+ghost use Rattle.std.specs.List.{list_all};
+ghost use Rattle.text.specs.Lines.{printable, index_of, lines, fields, BeginsWithLine};
 
 /// The byte between two fields.
 pub const TAB: u8 = 9;
@@ -33,7 +34,7 @@ pub(crate) fn is_printable(byte: u8) -> bool
 
 /// Whether each byte of a line may stand there.
 pub fn all_printable(line: &[u8]) -> bool
-    ensures { result ≡ every printable line.now }
+    ensures { result ≡ list_all printable line.now }
 {
     line.iter().all(|b| is_printable(*b))
 }

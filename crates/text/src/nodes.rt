@@ -1,6 +1,7 @@
 //! What a node line says.
 ghost use Rattle.std.specs.Prelude.{◌≡◌, ◌+◌, ◌≤◌, [], map, length, drop, Ok};
-ghost use Rattle.text.specs.Lines.{every, fields};
+ghost use Rattle.std.specs.List.{list_all};
+ghost use Rattle.text.specs.Lines.{fields};
 ghost use Rattle.text.specs.Numerals.{number};
 ghost use Rattle.text.specs.Format.{is_number, number_or_zero, literal_of, literal, no_field, entry_of};
 ghost use Rattle.text.specs.Steps.{Answers, Heard, written_at};
@@ -22,7 +23,7 @@ pub struct NodeLine {
 
 /// Whether each field of a line from the field `from` on is a number.
 pub(crate) fn all_numbers(line: &[u8], from: usize) -> bool
-    ensures { result ≡ every is_number (drop from (fields line.now)) }
+    ensures { result ≡ list_all is_number (drop from (fields line.now)) }
 {
     line.split(|b| *b == TAB)
         .skip(from)

@@ -4,7 +4,7 @@ use Rattle.table.specs.Whole.{circuit, roles}
 use Rattle.table.proofs.Asked.{variables_long, variables_few}
 use Rattle.search.specs.declared.choice.Choice.{Choice}
 use Rattle.search.specs.Listing.{root_mentions}
-use Rattle.search.proofs.Listing.{Listing, list_option, list_chance, list_all}
+use Rattle.search.proofs.Listing.{Listing, list_option, list_chance, all_listed}
 use Rattle.search.proofs.choices.list_choices.Goals as goal
 use Rattle.search.proofs.choices.list_choices.Goals.{then-has_option, else-has_option}
 
@@ -54,7 +54,7 @@ returns c =
     let fewer : c.loop-i.count ≤ c.loop-i.index = c.loop-i.invariant.fewer in
     let few : c.loop-i.index ≤ c.loop-i.i = c.loop-i.invariant.few in
     record {
-      listed = list_all (root_mentions (circuit t)) c.args.holds.now.entries (roles t) c.args.out.now c.loop-i.out c.loop-i.count c.loop-i.index c.loop-i.i c.loop-i.invariant
+      listed = all_listed (root_mentions (circuit t)) c.args.holds.now.entries (roles t) c.args.out.now c.loop-i.out c.loop-i.count c.loop-i.index c.loop-i.i c.loop-i.invariant
           (omega (arith, ap length c.as_slice-i-end.ensures, variables_long t));
       few = omega (arith, ap length c.as_slice-i-end.ensures, variables_long t, c.loop-i.auto.i-end);
     }

@@ -1,6 +1,6 @@
+use Rattle.std.specs.List.{list_all}
 use Rattle.std.proofs.Common.{◌≡◌, ℕ, ◌<◌, length, take, sym, ap, ◌∙◌, arith}
 use Rattle.std.proofs.lemmas.List.{length-take-le}
-use Rattle.table.specs.Circuit.{every}
 use Rattle.table.specs.Sound.{options}
 use Rattle.table.specs.Whole.{circuit, roles}
 use Rattle.table.proofs.Asked.{variables_few}
@@ -36,7 +36,7 @@ pick-requires g c =
       some = some_listed g a (omega arith);
       rising = ap (λ cs. rising (options_of cs)) (listed g a)
           ∙ ap rising (choices_free (root_mentions (circuit t)) c.args.holds.now.entries 0 (options (roles t))) ∙ free_rising (roles t) c.args.holds.now.entries;
-      placed = ap (every (placed (length c.args.part.now))) (listed g a)
+      placed = ap (list_all (placed (length c.args.part.now))) (listed g a)
           ∙ choices_placed (root_mentions (circuit t)) c.args.holds.now.entries 0 (options (roles t)) (length c.args.part.now) (omega (arith, c.requires));
     }
 
