@@ -1,12 +1,15 @@
 //! What a file is read into.
-ghost use Rattle.std.specs.Prelude.{◌≡◌, true, IfOk};
+ghost use Rattle.std.specs.Prelude.{◌≡◌, true, IfOk, IfErr, Ok, Err};
 ghost use Rattle.std.specs.List.{list_all};
 ghost use Rattle.plants.specs.Parts.{ArePartsOf, AreReadInto};
 ghost use Rattle.text.specs.Format.{listed, named_printable};
+ghost use Rattle.table.specs.Check.{check_says};
 
 use parts::stores::{Parts, Room};
 use std::alloc::Global;
 use std::test::Fail;
+use table::fault::Fault;
+use table::table::Table;
 use text::record::{Form, Node, Variables};
 use text::refusal::Refusal;
 
@@ -57,5 +60,12 @@ impl Stores {
             children,
             variables: contents.variables,
         })
+    }
+    /// The table of these parts, or why the check refuses them.
+    pub fn table(&self) -> Result<Table<'_>, Fault>
+        ensures table { IfOk result (λ t. (t.nodes.now ≡ self.now.nodes.items) × (t.children.now ≡ self.now.children.items) × (check_says self.now.variables self.now.nodes.items self.now.children.items ≡ Ok t.mentions)) }
+        ensures fault { IfErr result (λ f. check_says self.now.variables self.now.nodes.items self.now.children.items ≡ Err f) }
+    {
+        Table::check(&self.nodes, &self.children, self.variables)
     }
 }
