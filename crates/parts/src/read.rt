@@ -38,18 +38,16 @@ impl Parts {
     {
         let mut nodes = vec![in heap; room.node; room.nodes]?;
         let mut children = vec![in heap; room.child; room.children]?;
-        match read_table(file, &mut nodes, &mut children) {
-            Ok(contents) => {
-                nodes.truncate(contents.nodes as usize);
-                children.truncate(contents.children as usize);
-                Ok(Ok(Parts {
-                    contents,
-                    nodes,
-                    children,
-                }))
+        let answer = read_table(file, &mut nodes, &mut children);
+        Ok(answer.map(|contents| {
+            nodes.truncate(contents.nodes as usize);
+            children.truncate(contents.children as usize);
+            Parts {
+                contents,
+                nodes,
+                children,
             }
-            Err(fault) => Ok(Err(fault)),
-        }
+        }))
     }
 
     /// The weight text: what stands in the file behind the table.

@@ -9,7 +9,7 @@ ghost use Rattle.table.specs.Facts.{Accepts, Means};
 use crate::fault::{Fault, Flaw};
 use crate::known::NodeSets;
 use crate::mentions::Mentions;
-use crate::node::{flaw_of, sets_of};
+use crate::node::Before;
 use crate::sets::chance_set;
 use text::fault::{Fault as TextFault, Reason};
 use text::record::{Node, Variables};
@@ -50,13 +50,18 @@ fn check_nodes(nodes: &[Node], children: &[u16], variables: &Variables) -> Resul
 {
     let count = variables.as_slice().len();
     let chances = chance_set(variables);
+    // An array for the largest table: the engine has no heap.
     let mut known = [NodeSets::default(); 4096];
     for (i, node) in nodes.iter().enumerate() {
-        let before = &known[..i];
-        if let Some(flaw) = flaw_of(*node, children, before, count, chances) {
+        let before = Before {
+            nodes: &known[..i],
+            count,
+            chances,
+        };
+        if let Some(flaw) = before.flaw_of(*node, children) {
             return Err(Fault::Node { flaw, node: i });
         }
-        known[i] = sets_of(*node, nodes, children, before);
+        known[i] = before.sets_of(*node, nodes, children);
     }
     let root = nodes.len() - 1;
     if known[root].mentions & chances != chances {
@@ -73,6 +78,7 @@ fn mentions_of(known: &[NodeSets]) -> Mentions
     requires { length known.now ≤ 4096 }
     ensures { result ≡ mentions_in known.now }
 {
+    // By place: `array::from_fn` was tried, and the proof did not close.
     let mut sets = [0; 4096];
     for (i, node) in known.iter().enumerate() {
         sets[i] = node.mentions;

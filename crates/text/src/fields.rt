@@ -10,6 +10,7 @@ pub const TAB: u8 = 9;
 pub const NEWLINE: u8 = 10;
 
 /// The place of the first `byte`, or the length of the text where it has none.
+// Not an Option: what stands before the byte is `text[..place]` either way.
 pub fn find(text: &[u8], byte: u8) -> usize
     ensures value { result ≡ index_of byte text.now }
     ensures within { result ≤ length text.now }

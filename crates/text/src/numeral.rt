@@ -27,7 +27,7 @@ pub fn read_number(field: &[u8]) -> Option<u16>
 fn read_digits(digits: &[u8], cap: u64) -> Option<u64>
     ensures { result ≡ digits_upto cap 0 digits.now }
 {
-    // A loop with `?`: what `try_fold` says of a closure that may fail is longer to use.
+    // A loop with `?`: `try_fold` was tried, and the proof did not close.
     let mut value = 0;
     for byte in digits {
         value = with_digit(value, *byte, cap)?;

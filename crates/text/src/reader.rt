@@ -57,15 +57,17 @@ impl<'n, 'c> Progress<'n, 'c> {
 
     /// Whether a node may have so many children more.
     fn children_fit(&self, count: usize) -> bool
-        requires { (self.now.children + count < 2 ^ 64) × (self.now.nodes + 1 < 2 ^ 64) }
+        requires { self.now.children + count < 2 ^ 64 }
         ensures { result ≡ fitting self.now.header self.now.nodes self.now.children count }
     {
         let used = self.children + count;
         used <= self.header.children as usize
-            && (self.nodes + 1 < self.header.nodes as usize
+            && (self.header.nodes as usize > self.nodes + 1
                 || used >= self.header.children as usize)
     }
 
+    // That the line which is due ends within 65536 bytes is a fact about it and the place: a struct of
+    // both would be made for each line.
     /// The header line.
     fn take_header(&mut self, line: &[u8]) -> Result<(), Reason>
         requires first { self.old.line ≡ 1 }

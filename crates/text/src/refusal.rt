@@ -19,6 +19,7 @@ pub trait Refusal: Copy {
         ensures { result ≡ numbered self };
 
     /// The line, the node or the variable of the refusal, or 0.
+    // Not an Option: each refusal is printed with a number here.
     fn place(self) -> usize
         ensures { result ≡ placed self };
 

@@ -1,5 +1,5 @@
 //! What is printed of a variable: its role and its name.
-ghost use Rattle.std.specs.Prelude.{◌≡◌, Some, IsAscii};
+ghost use Rattle.std.specs.Prelude.{◌≡◌, [], Some, IsAscii, IsUtf8};
 ghost use Rattle.text.specs.Format.{spelled};
 ghost use Rattle.text.specs.Shown.{role_word};
 
@@ -18,9 +18,12 @@ impl fmt::Display for Role {
 }
 
 impl Name {
-    /// The name as text. The reader accepts only names of printable ASCII.
+    /// The name as text: nothing where its bytes are none. The reader accepts only names of printable
+    /// ASCII.
     pub fn as_str(&self) -> &str
-        ensures { IsAscii (spelled self.now) → result.now ≡ spelled self.now }
+        ensures ascii { IsAscii (spelled self.now) → result.now ≡ spelled self.now }
+        ensures text { IsUtf8 (spelled self.now) → result.now ≡ spelled self.now }
+        ensures other { ¬ (IsUtf8 (spelled self.now)) → result.now ≡ [] }
     {
         std::str::from_utf8(self.as_bytes()).unwrap_or("")
     }

@@ -19,10 +19,8 @@ counted c =
 
 pub children_fit-requires : goal.children_fit-requires
 children_fit-requires c =
-    let s = c.args.self.now in (
-      omega (arith, c.field_count.ensures, few_fields c.args.line.now, s.children_within, s.limit_children, c.requires.room),
-      omega (arith, c.requires.due, s.room_nodes, c.well_formed),
-    )
+    let s = c.args.self.now in
+    omega (arith, c.field_count.ensures, few_fields c.args.line.now, s.children_within, s.limit_children, c.requires.room)
 
 pub returns-then-not-children_fit : goal.returns-then-not-children_fit
 returns-then-not-children_fit c =
