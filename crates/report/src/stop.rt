@@ -28,7 +28,7 @@ impl From<TableFault> for Stop {
     ghost from_gives = { λ f s. s ≡ Refused (Table f) };
 
     fn from(fault: TableFault) -> Stop {
-        Stop::Refused(Fault::Table(fault))
+        Stop::from(Fault::from(fault))
     }
 }
 
@@ -36,7 +36,7 @@ impl From<TextFault> for Stop {
     ghost from_gives = { λ f s. s ≡ Refused (Table (Text f)) };
 
     fn from(fault: TextFault) -> Stop {
-        Stop::Refused(Fault::Table(TableFault::Text(fault)))
+        Stop::from(TableFault::from(fault))
     }
 }
 

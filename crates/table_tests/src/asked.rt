@@ -5,7 +5,6 @@ use plants::files::PLANT;
 use plants::stores::Stores;
 use std::process::Abort;
 use std::test::Fail;
-use table::table::Table;
 
 // A node, a variable, and whether the node mentions it.
 type Mention = (usize, u16, bool);
@@ -85,11 +84,9 @@ fn check_asked(
     known: &[Known],
     case: &str,
 ) -> Result<(), Fail> {
-    let nodes = stores.nodes.as_slice();
-    let children = stores.children.as_slice();
-    let Ok(table) = Table::check(nodes, children, stores.variables) else {
-        return Err(Fail::new(format_args!("refused: {case}")));
-    };
+    let table = stores
+        .table()
+        .map_err(|_| Fail::new(format_args!("refused: {case}")))?;
     for (node, variable, due) in mentions {
         assert_eq!(rt;
             table.does_mention(*node, *variable),

@@ -17,7 +17,7 @@ loop-number-preserved-in-Continue-1 c =
     let v = c.in-Some.variable.now in
     further (names_text c.args.holds.now.entries) _ _ (string_bytes c.write.new.self) _ _ _ _ _ _ s.0 s.1 c.loop-number.invariant
     (λ ascii. named c.args.holds.now.entries c.in-Some.number v c.next.new.self.b.rest.now _ c.is_on.ensures (string_bytes c.loop-number.text) (string_bytes c.write.new.self) c.if-is_on.true
-    (c.in_ok-write.ensures.bytes ∙ ap (λ w. string_bytes c.loop-number.text ++ 9 ∷ w) (c.as_str-name.ensures ascii)))
+    (c.in_ok-write.ensures.bytes ∙ ap (λ w. string_bytes c.loop-number.text ++ 9 ∷ w) (c.as_str-name.ensures.ascii ascii)))
 
 pub loop-number-preserved : goal.loop-number-preserved
 loop-number-preserved c =
