@@ -1,7 +1,8 @@
-//! Reads a plant's table file from standard input and prints what it says.
+//! Reads a plant's table file, with its weight text, from standard input, and prints its bound and
+//! its best selection in tallies.
 #![tactic(auto)]
 
-mod report;
+mod answer;
 
 use parts::read::MOST_READ;
 use std::io;
@@ -11,6 +12,6 @@ use std::io::Read;
 fn main(rt: HostRuntime) -> io::Result<()> {
     let mut file = Vec::new(rt.alloc());
     rt.stdin().take(MOST_READ).read_to_end(&mut file)?;
-    let text = report::report(rt.alloc(), file.as_slice())?;
+    let text = answer::quote(rt.alloc(), file.as_slice())?;
     print!(rt; "{text}")
 }

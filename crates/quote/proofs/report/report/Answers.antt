@@ -1,7 +1,0 @@
-use Rattle.std.proofs.Common.{string_bytes}
-use Rattle.parts.proofs.Filling.{parts_of}
-use Rattle.quote.proofs.Listing.{read_parts}
-use Rattle.quote.proofs.report.report.Goals as goal
-
-pub returns-in-Ok : goal.returns-in-Ok
-returns-in-Ok c = read_parts string_bytes c.checked_text.result c.in-Ok.parts c.args.file.now (parts_of _ _ _ _ _ c.largest-room.ensures c.in-Ok.is c.in_ok-parts.ensures) c.checked_text.ensures
