@@ -13,6 +13,7 @@ pub fn stride(table: &Table) -> usize
 }
 
 /// The places of the parts of all nodes: how many a work table needs for the pair pass.
+#[tactic(auto, using(crate::proofs::Roots::few_options))]
 pub fn pair_places(table: &Table) -> usize
     ensures { result ≡ pair_places (roles table.now) (circuit table.now) }
 {
