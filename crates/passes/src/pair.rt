@@ -157,10 +157,7 @@ impl<K: Figure> Step<'_, '_, '_, K> {
 fn lower<K: Figure>(best: Option<K>, figure: K) -> K
     ensures { result ≡ lower K.ring best figure }
 {
-    match best {
-        Some(least) => lesser(least, figure),
-        None => figure,
-    }
+    best.map_or(figure, |least| lesser(least, figure))
 }
 
 /// Lists the options by rising number: how many there are.
@@ -172,12 +169,9 @@ fn list_options(table: &Table, out: &mut [u16]) -> usize
 {
     let mut count = 0;
     for (i, variable) in table.variables.as_slice().iter().enumerate() {
-        match variable.role {
-            Role::Option => {
-                out[count] = i as u16 + 1;
-                count += 1;
-            }
-            Role::Chance => {}
+        if variable.role == Role::Option {
+            out[count] = i as u16 + 1;
+            count += 1;
         }
     }
     count
