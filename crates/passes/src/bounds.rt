@@ -10,9 +10,9 @@ ghost use Rattle.passes.specs.Passes.{plains, plain_bound as plain_bound_of, pai
 ghost use Rattle.passes.specs.Places.{pair_places};
 
 use crate::figure::last_of;
-use crate::parts::Parts;
 use crate::places::stride;
 use crate::query::Query;
+use crate::values::NodeValues;
 use kinds::figure::Figure;
 
 impl<K: Figure> Query<'_, K> {
@@ -38,7 +38,7 @@ impl<K: Figure> Query<'_, K> {
     {
         self.pair_pass(work);
         let root = self.table.nodes.len() - 1;
-        Parts {
+        NodeValues {
             places: work,
             stride: stride(self.table),
         }
