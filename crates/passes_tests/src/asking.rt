@@ -79,8 +79,6 @@ pub(crate) fn ask<K: Figure>(
     holds: &Holds,
     work: &mut [K],
 ) -> Result<Answers<K>, Fail> {
-    let nodes = stores.nodes.as_slice();
-    let children = stores.children.as_slice();
-    let table = Table::check(nodes, children, stores.variables).map_err(|_| Fail::new("refused"))?;
+    let table = stores.table().map_err(|_| Fail::new("refused"))?;
     run(&table, sheet, holds, work).ok_or_else(|| Fail::new("a store is too short"))
 }
