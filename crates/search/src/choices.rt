@@ -47,15 +47,11 @@ fn list_choices(table: &Table, holds: &Holds, out: &mut [Choice]) -> usize
     ensures listed { take result out.new ≡ choices_of (roles table.now) (circuit table.now) holds.now.entries }
     ensures few { result ≤ length (roles table.now) }
 {
-    // Two counts: places go by `index`, over all options, and `count` is that of the free ones.
+    let variables = table.variables.as_slice().len() as u16;
+    let options = (1..variables + 1).filter(|variable| table.has_option(*variable));
     let mut count = 0;
-    let mut index = 0;
-    for i in 0..table.variables.as_slice().len() {
-        let variable = i as u16 + 1;
-        if table.has_option(variable) {
-            count = list_choice(table, holds, variable, index, out, count);
-            index += 1;
-        }
+    for (index, variable) in options.enumerate() {
+        count = list_choice(table, holds, variable, index, out, count);
     }
     count
 }
