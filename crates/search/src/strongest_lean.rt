@@ -29,14 +29,8 @@ fn stronger<K: Figure>(part: &[K], best: Option<Choice>, choice: Choice) -> Choi
     requires choice { placed (length part.now) choice ≡ true }
     ensures { result ≡ stronger_of K.ring part.now best choice }
 {
-    match best {
-        Some(b) => if weaker(part, b).no_higher(weaker(part, choice)) {
-            b
-        } else {
-            choice
-        },
-        None => choice,
-    }
+    let value = weaker(part, choice);
+    best.filter(|b| weaker(part, *b).no_higher(value)).unwrap_or(choice)
 }
 
 /// The best of the mentioned choices, with one choice more.
