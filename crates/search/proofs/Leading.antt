@@ -14,7 +14,7 @@ use Rattle.search.specs.declared.choice.Choice.{Choice}
 use Rattle.search.specs.Orders.{Lean, lowest, weaker, weakest, weakest_or, strongest, lean_at, told, placed, stronger}
 
 module _ {F : Type 0} (R : Semiring F) (part : List F) where
-  lowest_told : (cs : List Choice) → 0 < length cs → (d : Choice) → (get_or cs 0 d).option ≡ lowest (told R part cs)
+  pub lowest_told : (cs : List Choice) → 0 < length cs → (d : Choice) → (get_or cs 0 d).option ≡ lowest (told R part cs)
   lowest_told [] h d = absurd (not-suc-le-zero h)
   lowest_told (c ∷ cs) h d = refl
 

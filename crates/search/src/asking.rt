@@ -11,7 +11,7 @@ use crate::fault::Fault;
 use crate::found::Found;
 use crate::order::BranchingOrder;
 use crate::plan::Plan;
-use crate::tests::{pair_places, require_all_held, require_no_stray, require_sheet, require_work};
+use crate::requirements::{pair_places, require_all_held, require_no_stray, require_sheet, require_work};
 use kinds::figure::Figure;
 use passes::holds::Holds;
 use passes::query::Query;

@@ -9,7 +9,7 @@ ghost use Rattle.search.specs.Calls.{entries_with, hold_refusals, release_refusa
 ghost use Rattle.search.specs.Study.{answered, changed_to};
 
 use crate::fault::Fault;
-use crate::tests::{
+use crate::requirements::{
     require_chance, require_free, require_held, require_no_stray, require_option, require_sheet,
 };
 use kinds::figure::Figure;

@@ -9,7 +9,7 @@ ghost use Rattle.search.specs.Study.{answered};
 
 use crate::fault::Fault;
 use crate::guard::Trial;
-use crate::tests::{
+use crate::requirements::{
     pair_places, require_free, require_no_stray, require_option, require_sheet, require_work,
 };
 use kinds::figure::Figure;

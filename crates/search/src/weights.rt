@@ -6,7 +6,7 @@ ghost use Rattle.table.specs.Whole.{roles};
 ghost use Rattle.search.specs.Weights.{field_at, is_weight_line, weight_field, form_says, line_says, weights_say};
 
 use crate::fault::Fault;
-use crate::tests::{require_chance, require_sheet};
+use crate::requirements::{require_chance, require_sheet};
 use crate::weighing::Weighing;
 use kinds::figure::Figure;
 use kinds::written::Written;

@@ -1,6 +1,6 @@
 use Rattle.std.proofs.Common.{◌+◌, ◌*◌, sym, ◌∙◌, ap₂}
 use Rattle.passes.proofs.Roots.{node_count, options_many}
-use Rattle.search.proofs.tests.pair_places.Goals as goal
+use Rattle.search.proofs.requirements.pair_places.Goals as goal
 
 pub returns : goal.returns
 returns c =
