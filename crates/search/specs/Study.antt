@@ -31,7 +31,7 @@ answered ts a = answer_unless (first_fit ts) a
 
 -- a single refusal, as the test for it answers
 abbrev pub passed : Bool × Fault → Result (Unit {0}) Fault
-passed t = cond t.0 (Err t.1) (Ok tt)
+passed t = answered (t ∷ []) tt
 
 -- what is new, or what was before if a refusal fits
 abbrev pub changed_to : {A : Type 0} → Tests → A → A → A
