@@ -1,5 +1,5 @@
 -- The root's value in the work table. Assumes nothing.
-use Rattle.std.proofs.Common.{◌≡◌, ℕ, suc, ◌+◌, ◌-◌, ◌*◌, ◌≤◌, true, leb, List, [], ◌∷◌, ◌++◌, map, length, get_or, sym, refl, ap, ◌∙◌, suc-mul, arith}
+use Rattle.std.proofs.Common.{◌≡◌, ℕ, suc, ◌+◌, ◌-◌, ◌*◌, ◌≤◌, true, ◌&&◌, leb, List, [], ◌∷◌, ◌++◌, map, length, get_or, sym, refl, ap, ◌∙◌, suc-mul, arith}
 use Rattle.std.proofs.lemmas.List.{get_or_append_left, length-map}
 use Rattle.std.proofs.lemmas.Bool.{and_parts, leb-true}
 use Rattle.table.specs.declared.table.Table.{Table}
@@ -15,11 +15,16 @@ use Rattle.table.specs.Whole.{circuit, roles}
 use Rattle.passes.specs.Passes.{Part, no_part, work}
 use Rattle.passes.proofs.Rowing.{work_length, value_there}
 
--- a table has a node, and as many as its circuit
-pub some_node : (t : Table) → 1 ≤ length t.nodes.now
-some_node t =
-    let a = and_parts (leb 1 t.variables.count) _ t.counts in
-    leb-true 1 (length t.nodes.now) (and_parts (leb 1 (length t.nodes.now)) _ a.1).0
+-- a table has a node, at most 4,096, and as many as its circuit
+module _ (t : Table) where
+  counted : (leb 1 (length t.nodes.now) && leb (length t.nodes.now) 4096) ≡ true
+  counted = (and_parts (leb 1 t.variables.count) _ t.counts).1
+
+  pub some_node : 1 ≤ length t.nodes.now
+  some_node = leb-true 1 (length t.nodes.now) (and_parts (leb 1 (length t.nodes.now)) _ counted).0
+
+  pub few_nodes : length t.nodes.now ≤ 4096
+  few_nodes = leb-true (length t.nodes.now) 4096 (and_parts (leb 1 (length t.nodes.now)) _ counted).1
 
 pub node_count : (t : Table) → length (circuit t) ≡ length t.nodes.now
 node_count t = length-map t.nodes.now (shape t.children.now)
@@ -40,6 +45,9 @@ options_from (v ∷ vs) i = one_option v.role i (map (λ u. is_option_role u.rol
 
 pub options_many : (t : Table) → length (options (roles t)) ≡ count_options (listed t.variables)
 options_many t = options_from (listed t.variables) 1
+
+pub few_options : (t : Table) → length (options (roles t)) ≤ 20
+few_options t = omega (arith, options_many t, leb-true (count_options (listed t.variables)) 20 t.few)
 
 -- the root's part, in a work table of parts
 pub last_part : (n stride : ℕ) → 1 ≤ n → (n - 1) * stride + stride ≡ n * stride

@@ -8,6 +8,7 @@ mod holding;
 pub mod holds;
 mod pair;
 mod parts;
+pub mod places;
 mod plain;
 pub mod query;
 mod rule;

@@ -6,10 +6,12 @@ ghost use Rattle.table.specs.Facts.{about};
 ghost use Rattle.table.specs.Sound.{options as options_of};
 ghost use Rattle.table.specs.Whole.{circuit, roles};
 ghost use Rattle.passes.specs.Passes.{work as laid_out, pairs};
+ghost use Rattle.passes.specs.Places.{stride, pair_places};
 ghost use Rattle.passes.specs.Rows.{under_in, open_at, side_or_zero, lower, lowest, row_in, value_by, part_in};
 ghost use Rattle.passes.specs.Ways.{side_way};
 
 use crate::parts::Parts;
+use crate::places::stride;
 use crate::plain::Plain;
 use crate::query::Query;
 use crate::rule::Rule;
@@ -67,7 +69,7 @@ struct Step<'a, 'b, 'c, K> {
     parts: Parts<'c, K>,
     node: usize,
     ghost listed: { options.now ≡ options_of (roles query.now.table.now) },
-    ghost stride: { parts.stride ≡ 2 * length options.now + 1 },
+    ghost stride: { parts.stride ≡ stride (roles query.now.table.now) },
     ghost inside: { node < length query.now.table.now.nodes.now },
     ghost before: { length parts.places.now ≡ node * parts.stride },
 }
@@ -182,20 +184,13 @@ fn list_options(table: &Table, out: &mut [u16]) -> usize
 }
 
 impl<K: Figure> Query<'_, K> {
-    /// How many places a work table needs for the pair pass.
-    pub fn pair_room(&self) -> usize
-        ensures { result ≡ length (circuit self.now.table.now) * (2 * length (options_of (roles self.now.table.now)) + 1) }
-    {
-        self.table.nodes.len() * (2 * self.table.variables.options() + 1)
-    }
-
     /// Writes a node's part, from those of the nodes before it.
     fn write_part(&self, options: &[u16], node: usize, places: &[K], part: &mut [K])
         requires listed { options.now ≡ options_of (roles self.now.table.now) }
         requires node { node < length self.now.table.now.nodes.now }
-        requires part { length part.old ≡ 2 * length options.now + 1 }
-        requires places { length places.now ≡ node * (2 * length options.now + 1) }
-        ensures { part.new ≡ part_in K.ring (roles self.now.table.now) self.now.sheet.now self.now.holds.now.entries (circuit self.now.table.now) (2 * length options.now + 1) places.now node options.now }
+        requires part { length part.old ≡ stride (roles self.now.table.now) }
+        requires places { length places.now ≡ node * stride (roles self.now.table.now) }
+        ensures { part.new ≡ part_in K.ring (roles self.now.table.now) self.now.sheet.now self.now.holds.now.entries (circuit self.now.table.now) (stride (roles self.now.table.now)) places.now node options.now }
     {
         let parts = Parts {
             places,
@@ -214,10 +209,10 @@ impl<K: Figure> Query<'_, K> {
     /// Writes the parts of the nodes, in order, by the list of the options.
     fn write_parts(&self, options: &[u16], work: &mut [K])
         requires listed { options.now ≡ options_of (roles self.now.table.now) }
-        requires room { length (circuit self.now.table.now) * (2 * length options.now + 1) ≤ length work.old }
-        ensures { work.new ≡ laid_out K.ring (roles self.now.table.now) self.now.sheet.now (pairs K.ring (roles self.now.table.now) self.now.sheet.now (circuit self.now.table.now) self.now.holds.now.entries) ++ drop (length (circuit self.now.table.now) * (2 * length options.now + 1)) work.old }
+        requires room { pair_places (roles self.now.table.now) (circuit self.now.table.now) ≤ length work.old }
+        ensures { work.new ≡ laid_out K.ring (roles self.now.table.now) self.now.sheet.now (pairs K.ring (roles self.now.table.now) self.now.sheet.now (circuit self.now.table.now) self.now.holds.now.entries) ++ drop (pair_places (roles self.now.table.now) (circuit self.now.table.now)) work.old }
     {
-        let stride = 2 * options.len() + 1;
+        let stride = stride(self.table);
         // By number: each step is written behind the parts of the nodes before it.
         for node in 0..self.table.nodes.len() {
             let (places, rest) = work.split_at_mut(node * stride);
@@ -229,8 +224,8 @@ impl<K: Figure> Query<'_, K> {
     /// part has 2k + 1 places: the node's value, then each option's on and off value by rising
     /// number, zero where there is none.
     pub fn pair_pass(&self, work: &mut [K])
-        requires room { length (circuit self.now.table.now) * (2 * length (options_of (roles self.now.table.now)) + 1) ≤ length work.old }
-        ensures { work.new ≡ laid_out K.ring (roles self.now.table.now) self.now.sheet.now (pairs K.ring (roles self.now.table.now) self.now.sheet.now (circuit self.now.table.now) self.now.holds.now.entries) ++ drop (length (circuit self.now.table.now) * (2 * length (options_of (roles self.now.table.now)) + 1)) work.old }
+        requires room { pair_places (roles self.now.table.now) (circuit self.now.table.now) ≤ length work.old }
+        ensures { work.new ≡ laid_out K.ring (roles self.now.table.now) self.now.sheet.now (pairs K.ring (roles self.now.table.now) self.now.sheet.now (circuit self.now.table.now) self.now.holds.now.entries) ++ drop (pair_places (roles self.now.table.now) (circuit self.now.table.now)) work.old }
     {
         let mut numbers = [0; 64];
         let count = list_options(self.table, &mut numbers);

@@ -2,6 +2,7 @@
 use kinds::figure::Figure;
 use parts::stores::Room;
 use passes::holds::Holds;
+use passes::places::pair_places;
 use passes::query::Query;
 use plants::stores::Stores;
 use std::alloc::Global;
@@ -41,7 +42,7 @@ fn run<K: Figure>(table: &Table, sheet: &[K], holds: &Holds, work: &mut [K]) -> 
         holds,
     };
     // All of it is lent: what the passes do not write is looked at afterwards.
-    if work.len() < query.pair_room() {
+    if work.len() < pair_places(table) {
         return None;
     }
     let figure = query.count_figure(work);
