@@ -1,7 +1,7 @@
 //! The free options, and the one that an order names.
 ghost use Rattle.std.specs.Prelude.{◌≡◌, ◌+◌, ◌*◌, ◌<◌, ◌≤◌, [], ◌∷◌, ◌++◌, length, take};
-ghost use Rattle.table.specs.Sound.{options};
 ghost use Rattle.table.specs.Whole.{circuit, roles};
+ghost use Rattle.passes.specs.Places.{stride};
 ghost use Rattle.search.specs.Listing.{choices_from, root_mentions, choices as choices_of};
 ghost use Rattle.search.specs.Orders.{told};
 ghost use Rattle.search.specs.Select.{named};
@@ -65,7 +65,7 @@ pub(crate) fn next_option<K: Figure, O: BranchingOrder<K>>(
     levels: usize,
     part: &[K],
 ) -> Option<u16>
-    requires { length part.now ≡ 2 * length (options (roles table.now)) + 1 }
+    requires { length part.now ≡ stride (roles table.now) }
     ensures { result ≡ as_option (gate levels (named (O.picks order.now) (told K.ring part.now (choices_of (roles table.now) (circuit table.now) holds.now.entries)))) }
 {
     if levels == 0 {

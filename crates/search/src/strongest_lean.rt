@@ -29,7 +29,11 @@ fn stronger<K: Figure>(part: &[K], best: Choice, choice: Choice) -> Choice
     requires choice { placed (length part.now) choice ≡ true }
     ensures { result ≡ stronger_of K.ring part.now best choice }
 {
-    if weaker(part, best).no_higher(weaker(part, choice)) { best } else { choice }
+    if weaker(part, best).no_higher(weaker(part, choice)) {
+        best
+    } else {
+        choice
+    }
 }
 
 impl<K: Figure> BranchingOrder<K> for StrongestLean {

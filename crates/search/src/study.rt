@@ -41,6 +41,7 @@ pub fn release(table: &Table, holds: &mut Holds, variable: u16) -> Result<(), Fa
     Ok(())
 }
 
+// Clause `same`: a type's invariant cannot speak of before and after, and a name would say no more.
 /// Writes a chance's two weights.
 pub fn weigh<K: Figure>(
     table: &Table,

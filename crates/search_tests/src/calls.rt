@@ -1,8 +1,7 @@
 //! The calls on plant K, with answers worked out by hand.
-use crate::steps::{MARK, Step, run_steps};
+use crate::steps::{MARK, Step, Study};
 use kinds::value::Peak;
 use kinds::written::Written;
-use passes::holds::Holds;
 use plants::files::PLANT;
 use plants::stores::Stores;
 use search::number_order::NumberOrder;
@@ -66,32 +65,24 @@ fn check_calls<K: Written + Clone>(
     heap: Global,
     case: &str,
 ) -> Result<(), Fail> {
-    let by_number = format!(in heap; "number order: {case}")?;
-    let by_lean = format!(in heap; "strongest lean: {case}")?;
-    let plant = Stores::read(PLANT, heap)?;
-    let mut sheet = vec![in heap; mark; 4]?;
-    let mut work = vec![in heap; mark; 21]?;
-    run_steps(
+    let mut study = Study {
+        stores: Stores::read(PLANT, heap)?,
+        sheet: vec![in heap; mark; 4]?,
+        work: vec![in heap; mark; 21]?,
+    };
+    study.run(
         rt,
-        &plant,
         &NumberOrder,
-        &mut Holds::new(),
-        sheet.as_mut_slice(),
-        work.as_mut_slice(),
         steps,
         heap,
-        &by_number,
+        &format_args!("number order: {case}"),
     )?;
-    run_steps(
+    study.run(
         rt,
-        &plant,
         &StrongestLean,
-        &mut Holds::new(),
-        sheet.as_mut_slice(),
-        work.as_mut_slice(),
         steps,
         heap,
-        &by_lean,
+        &format_args!("strongest lean: {case}"),
     )
 }
 

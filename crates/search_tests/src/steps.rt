@@ -33,14 +33,11 @@ pub(crate) fn holds_of(held: &[Held]) -> Holds {
     holds
 }
 
-/// The table of these parts.
+/// The table of these parts, which the check accepts.
 pub(crate) fn table_of<'a>(stores: &'a Stores, case: &impl Display) -> Result<Table<'a>, Fail> {
-    let nodes = stores.nodes.as_slice();
-    let children = stores.children.as_slice();
-    let Ok(table) = Table::check(nodes, children, stores.variables) else {
-        return Err(Fail::new(format_args!("refused: {case}")));
-    };
-    Ok(table)
+    stores
+        .table()
+        .map_err(|_| Fail::new(format_args!("refused: {case}")))
 }
 
 // What the calls of a study may change, as texts.
@@ -118,6 +115,43 @@ fn run_step<K: Written, O: BranchingOrder<K>>(
         );
     }
     Ok(())
+}
+
+/// The parts of a table, and a sheet and a work table for it.
+#[derive(Drop)]
+pub(crate) struct Study<K> {
+    pub stores: Stores,
+    pub sheet: Vec<K>,
+    pub work: Vec<K>,
+}
+
+impl<K: Written> Study<K> {
+    /// Answers the calls by an order, with nothing held before them.
+    pub(crate) fn run<O: BranchingOrder<K>>(
+        &mut self,
+        rt: &impl Abort,
+        order: &O,
+        steps: &[Step],
+        heap: Global,
+        case: &impl Display,
+    ) -> Result<(), Fail> {
+        let Study {
+            stores,
+            sheet,
+            work,
+        } = self;
+        run_steps(
+            rt,
+            stores,
+            order,
+            &mut Holds::new(),
+            sheet.as_mut_slice(),
+            work.as_mut_slice(),
+            steps,
+            heap,
+            case,
+        )
+    }
 }
 
 /// Answers the calls on the table of these parts.
