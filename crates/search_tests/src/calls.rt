@@ -1,7 +1,8 @@
 //! The calls on plant K, with answers worked out by hand.
-use crate::steps::{MARK, Step, Study};
+use crate::steps::{MARK, Step, Study, table_of};
 use kinds::value::Peak;
 use kinds::written::Written;
+use passes::holds::Holds;
 use plants::files::PLANT;
 use plants::stores::Stores;
 use search::number_order::NumberOrder;
@@ -65,25 +66,18 @@ fn check_calls<K: Written + Clone>(
     heap: Global,
     case: &str,
 ) -> Result<(), Fail> {
+    let by_number = format!(in heap; "number order: {case}")?;
+    let by_lean = format!(in heap; "strongest lean: {case}")?;
+    let plant = Stores::read(PLANT, heap)?;
     let mut study = Study {
-        stores: Stores::read(PLANT, heap)?,
-        sheet: vec![in heap; mark; 4]?,
+        table: table_of(&plant, &case)?,
+        holds: Holds::new(),
+        figures: vec![in heap; mark; 4]?,
         work: vec![in heap; mark; 21]?,
     };
-    study.run(
-        rt,
-        &NumberOrder,
-        steps,
-        heap,
-        &format_args!("number order: {case}"),
-    )?;
-    study.run(
-        rt,
-        &StrongestLean,
-        steps,
-        heap,
-        &format_args!("strongest lean: {case}"),
-    )
+    study.run(rt, &NumberOrder, steps, heap, &by_number)?;
+    study.holds = Holds::new();
+    study.run(rt, &StrongestLean, steps, heap, &by_lean)
 }
 
 #[test]

@@ -287,11 +287,14 @@ const BY_LEAN: &[Step] = &[
 fn orders(rt: HostRuntime) -> Result<(), Fail> {
     let heap = rt.alloc();
     let text = file(BLOCK_ROLES, BLOCKS, heap)?;
+    let stores = Stores::read(text.as_str(), heap)?;
     let mut study = Study {
-        stores: Stores::read(text.as_str(), heap)?,
-        sheet: sheet_of::<Tally>(TALLIES, heap)?,
+        table: table_of(&stores, &"orders")?,
+        holds: Holds::new(),
+        figures: sheet_of::<Tally>(TALLIES, heap)?,
         work: vec![in heap; Tally { count: 0 }; 297]?,
     };
     study.run(&rt, &NumberOrder, BY_NUMBER, heap, &"number order")?;
+    study.holds = Holds::new();
     study.run(&rt, &StrongestLean, BY_LEAN, heap, &"strongest lean")
 }
