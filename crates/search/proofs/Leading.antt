@@ -6,12 +6,12 @@ use denote.Param.Members.{Mut}
 use Rattle.std.proofs.lemmas.Iterator.{YieldsList, items_from_drains}
 use Rattle.std.proofs.lemmas.List.{map-id}
 use Rattle.std.proofs.lemmas.Bool.{and_from, and_parts, cond_both}
-use Rattle.std.proofs.Common.{◌≡◌, ℕ, ◌+◌, ◌<◌, ◌≤◌, Bool, true, false, cond, List, [], ◌∷◌, length, get_or, Some, None, Option, sym, refl, ap, ◌∙◌, subst, not-suc-le-zero}
+use Rattle.std.proofs.Common.{◌≡◌, ℕ, ◌<◌, Bool, true, false, cond, List, [], ◌∷◌, length, get_or, Some, None, Option, sym, refl, ap, ◌∙◌, subst, not-suc-le-zero}
 use Rattle.std.specs.Option.{unwrap_or}
 use Rattle.kinds.specs.Semiring.{Semiring}
 use Rattle.passes.specs.Holding.{filter as kept_by}
 use Rattle.search.specs.declared.choice.Choice.{Choice}
-use Rattle.search.specs.Orders.{Lean, lowest, weaker, weakest, weakest_or, strongest, lean_at, told, placed, stronger}
+use Rattle.search.specs.Orders.{lowest, weaker, weakest, weakest_or, strongest, lean_at, told, placed, stronger}
 
 module _ {F : Type 0} (R : Semiring F) (part : List F) where
   pub lowest_told : (cs : List Choice) → 0 < length cs → (d : Choice) → (get_or cs 0 d).option ≡ lowest (told R part cs)

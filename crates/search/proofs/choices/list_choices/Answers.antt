@@ -1,4 +1,4 @@
-use Rattle.std.proofs.Common.{◌≡◌, ℕ, ◌+◌, ◌<◌, ◌≤◌, List, [], ◌∷◌, ◌++◌, length, get_or, take, sym, refl, ap, ◌∙◌, arith, rules}
+use Rattle.std.proofs.Common.{◌≡◌, ℕ, ◌<◌, ◌≤◌, List, [], ◌∷◌, ◌++◌, length, get_or, take, sym, refl, ap, ◌∙◌, arith, rules}
 use Rattle.std.specs.List.{filter, range_with_len}
 use Rattle.std.proofs.lemmas.Iterator.{YieldsList-from_range}
 use Rattle.std.proofs.lemmas.Iterator.Consumers.{YieldsList-at, YieldsList-from_filter, YieldsList-from_enumerate, YieldsList-turn, YieldsList-end}
@@ -13,7 +13,7 @@ use Rattle.table.specs.declared.table.Table.{Table}
 use Rattle.table.proofs.Asked.{variables_long, variables_few}
 use Rattle.passes.proofs.Options.{option_there}
 use Rattle.search.specs.Listing.{root_mentions, choices_from}
-use Rattle.search.proofs.Listing.{Listing, one_listed, all_listed, options_filtered, options_few}
+use Rattle.search.proofs.Listing.{one_listed, all_listed, options_filtered, options_few}
 use Rattle.search.proofs.choices.list_choices.Goals as goal
 use Rattle.search.proofs.choices.list_choices.Goals.{In-Some}
 use borrow.Author.Tests.{tests}

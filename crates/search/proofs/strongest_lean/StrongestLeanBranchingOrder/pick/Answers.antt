@@ -1,9 +1,8 @@
-use Rattle.std.proofs.Common.{◌≡◌, ℕ, true, List, length, sym, ap, ◌∙◌, rules}
-use Rattle.std.specs.List.{list_all, filter}
+use Rattle.std.proofs.Common.{length, rules}
+use Rattle.std.specs.List.{filter}
 use Rattle.std.proofs.lemmas.Iterator.{YieldsList-from_slice}
 use Rattle.std.proofs.lemmas.Iterator.Consumers.{YieldsList-at, YieldsList-from_copied, YieldsList-from_filter}
 use Rattle.search.specs.declared.choice.Choice.{Choice}
-use Rattle.search.specs.Orders.{placed}
 use Rattle.search.proofs.Leading.{reduce_callable, reduce_given, strongest_told, filter_placed}
 use Rattle.search.proofs.strongest_lean.StrongestLeanBranchingOrder.pick.Goals as goal
 use borrow.Author.Tests.{tests}
