@@ -2,6 +2,7 @@
 use kinds::figure::Figure;
 use kinds::value::{Load, Peak, Tally};
 use passes::holds::Holds;
+use passes::places::pair_places;
 use passes::query::Query;
 use std::alloc::{AllocError, Global};
 use table::table::Table;
@@ -47,7 +48,7 @@ fn bound_in<K: Figure>(table: &Table, sheet: &[K], holds: &Holds, work: &mut [K]
         sheet,
         holds,
     };
-    let work = work.get_mut(..query.pair_room())?;
+    let work = work.get_mut(..pair_places(table))?;
     Some(query.pair_bound(work))
 }
 

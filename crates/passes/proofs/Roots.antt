@@ -41,6 +41,9 @@ options_from (v ∷ vs) i = one_option v.role i (map (λ u. is_option_role u.rol
 pub options_many : (t : Table) → length (options (roles t)) ≡ count_options (listed t.variables)
 options_many t = options_from (listed t.variables) 1
 
+pub few_options : (t : Table) → length (options (roles t)) ≤ 20
+few_options t = omega (arith, options_many t, leb-true (count_options (listed t.variables)) 20 t.few)
+
 -- the root's part, in a work table of parts
 pub last_part : (n stride : ℕ) → 1 ≤ n → (n - 1) * stride + stride ≡ n * stride
 last_part n stride some =

@@ -5,3 +5,4 @@ pub mod Marks
 pub mod Steps
 pub mod Ways
 pub mod Rows
+pub mod Places

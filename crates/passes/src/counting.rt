@@ -6,9 +6,9 @@ ghost use Rattle.passes.specs.Passes.{counts};
 ghost use Rattle.passes.specs.Steps.{value_in};
 ghost use Rattle.passes.specs.Ways.{count_way};
 
-use crate::parts::Parts;
 use crate::query::Query;
 use crate::rule::Rule;
+use crate::values::NodeValues;
 use kinds::figure::Figure;
 
 /// A chance's literal counts its weight; an option's one if it is selected so, else zero. A fork
@@ -38,8 +38,8 @@ impl<K: Figure> Rule<K> for Counting {
         on.plus(off)
     }
 
-    fn child(&self, _query: &Query<K>, parts: &Parts<K>, node: u16) -> K {
-        parts.value(node)
+    fn child(&self, _query: &Query<K>, values: &NodeValues<K>, node: u16) -> K {
+        values.value(node)
     }
 }
 

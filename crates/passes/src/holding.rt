@@ -49,7 +49,7 @@ impl Holds {
         ensures { self.new.entries ≡ with_entry self.old.entries variable entry }
     {
         if let Some(place) = (variable as usize).checked_sub(1) {
-            // By index: once a loan by `get_mut` is over, a proof knows no elements of the array.
+            // Tried with `get_mut`: once its loan is over, a proof knows no elements of the array.
             if place < self.entries.len() {
                 self.entries[place] = entry;
             }

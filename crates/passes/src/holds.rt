@@ -10,6 +10,7 @@ pub enum Entry {
 }
 
 /// An entry for each of 64 variables: variable v stands at place v - 1.
+// An array of fixed length: the engine has no heap.
 #[derive(Clone, Copy, PartialEq, Eq, Debug)]
 pub struct Holds {
     pub entries: [Entry; 64],

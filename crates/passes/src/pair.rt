@@ -6,13 +6,15 @@ ghost use Rattle.table.specs.Facts.{about};
 ghost use Rattle.table.specs.Sound.{options as options_of};
 ghost use Rattle.table.specs.Whole.{circuit, roles};
 ghost use Rattle.passes.specs.Passes.{work as laid_out, pairs};
+ghost use Rattle.passes.specs.Places.{stride, pair_places};
 ghost use Rattle.passes.specs.Rows.{under_in, open_at, side_or_zero, lower, lowest, row_in, value_by, part_in};
 ghost use Rattle.passes.specs.Ways.{side_way};
 
-use crate::parts::Parts;
+use crate::places::stride;
 use crate::plain::Plain;
 use crate::query::Query;
 use crate::rule::Rule;
+use crate::values::NodeValues;
 use kinds::figure::Figure;
 use kinds::order::{greater, lesser};
 use table::table::Table;
@@ -47,10 +49,10 @@ impl<K: Figure> Rule<K> for Side {
         query.join(variable, on, off)
     }
 
-    fn child(&self, query: &Query<K>, parts: &Parts<K>, node: u16) -> K {
-        let value = parts.value(node);
+    fn child(&self, query: &Query<K>, values: &NodeValues<K>, node: u16) -> K {
+        let value = values.value(node);
         if query.table.does_mention(node as usize, self.variable) {
-            let side = parts.places[node as usize * parts.stride + self.place];
+            let side = values.places[node as usize * values.stride + self.place];
             lesser(value, side)
         } else {
             value
@@ -58,18 +60,18 @@ impl<K: Figure> Rule<K> for Side {
     }
 }
 
-/// The step at one node: the query, its options by rising number, the parts of the nodes before it,
-/// and the node's number.
+/// The step at one node: the query, its options by rising number, the values of the nodes before
+/// it, and the node's number.
 #[derive(Drop)]
 struct Step<'a, 'b, 'c, K> {
     query: &'a Query<'a, K>,
     options: &'b [u16],
-    parts: Parts<'c, K>,
+    values: NodeValues<'c, K>,
     node: usize,
     ghost listed: { options.now ≡ options_of (roles query.now.table.now) },
-    ghost stride: { parts.stride ≡ 2 * length options.now + 1 },
+    ghost stride: { values.stride ≡ stride (roles query.now.table.now) },
     ghost inside: { node < length query.now.table.now.nodes.now },
-    ghost before: { length parts.places.now ≡ node * parts.stride },
+    ghost before: { length values.places.now ≡ node * values.stride },
 }
 
 impl<K: Figure> Step<'_, '_, '_, K> {
@@ -84,10 +86,10 @@ impl<K: Figure> Step<'_, '_, '_, K> {
     /// What stands in the node's part for an option, on and off: zero if there is no such value.
     fn sides(&self, variable: u16, on_place: usize, off_place: usize) -> (K, K)
         requires variable { 0 < variable }
-        requires on { on_place < self.now.parts.stride }
-        requires off { off_place < self.now.parts.stride }
-        ensures on { result.0 ≡ side_or_zero K.ring (mentions (circuit self.now.query.now.table.now)) self.now.parts.stride self.now.parts.places.now (roles self.now.query.now.table.now) self.now.query.now.holds.now.entries (circuit self.now.query.now.table.now) self.now.node true variable on_place }
-        ensures off { result.1 ≡ side_or_zero K.ring (mentions (circuit self.now.query.now.table.now)) self.now.parts.stride self.now.parts.places.now (roles self.now.query.now.table.now) self.now.query.now.holds.now.entries (circuit self.now.query.now.table.now) self.now.node false variable off_place }
+        requires on { on_place < self.now.values.stride }
+        requires off { off_place < self.now.values.stride }
+        ensures on { result.0 ≡ side_or_zero K.ring (mentions (circuit self.now.query.now.table.now)) self.now.values.stride self.now.values.places.now (roles self.now.query.now.table.now) self.now.query.now.holds.now.entries (circuit self.now.query.now.table.now) self.now.node true variable on_place }
+        ensures off { result.1 ≡ side_or_zero K.ring (mentions (circuit self.now.query.now.table.now)) self.now.values.stride self.now.values.places.now (roles self.now.query.now.table.now) self.now.query.now.holds.now.entries (circuit self.now.query.now.table.now) self.now.node false variable off_place }
     {
         if !self.is_open(variable) {
             return (K::zero(), K::zero());
@@ -103,17 +105,17 @@ impl<K: Figure> Step<'_, '_, '_, K> {
             place: off_place,
         };
         (
-            self.query.node_at(&on, &self.parts, self.node),
-            self.query.node_at(&off, &self.parts, self.node),
+            self.query.node_at(&on, &self.values, self.node),
+            self.query.node_at(&off, &self.values, self.node),
         )
     }
 
     /// Writes the node's on and off value for each option behind the place of its value.
     fn write_sides(&self, part: &mut [K])
-        requires { length part.old ≡ self.now.parts.stride }
-        ensures { drop 1 part.new ≡ row_in K.ring (roles self.now.query.now.table.now) self.now.query.now.holds.now.entries (circuit self.now.query.now.table.now) self.now.parts.stride self.now.parts.places.now self.now.node self.now.options.now }
+        requires { length part.old ≡ self.now.values.stride }
+        ensures { drop 1 part.new ≡ row_in K.ring (roles self.now.query.now.table.now) self.now.query.now.holds.now.entries (circuit self.now.query.now.table.now) self.now.values.stride self.now.values.places.now self.now.node self.now.options.now }
     {
-        // By index: once a loan by `chunks_exact_mut` is over, a proof knows none of the places.
+        // By index: the places are also those that the children's parts are read at.
         for (j, &variable) in self.options.iter().enumerate() {
             let on_place = 2 * j + 1;
             let off_place = 2 * j + 2;
@@ -141,12 +143,12 @@ impl<K: Figure> Step<'_, '_, '_, K> {
     /// The node's value: the least over the free options that it mentions, or its plain value.
     fn value(&self, row: &[K]) -> K
         requires { length row.now ≡ 2 * length self.now.options.now }
-        ensures { result ≡ value_by K.ring (roles self.now.query.now.table.now) self.now.query.now.sheet.now self.now.query.now.holds.now.entries (circuit self.now.query.now.table.now) self.now.parts.stride self.now.parts.places.now row.now self.now.node self.now.options.now }
+        ensures { result ≡ value_by K.ring (roles self.now.query.now.table.now) self.now.query.now.sheet.now self.now.query.now.holds.now.entries (circuit self.now.query.now.table.now) self.now.values.stride self.now.values.places.now row.now self.now.node self.now.options.now }
     {
         // A match: the closure of an `unwrap_or_else` needs a contract of its own.
         match self.least(row) {
             Some(least) => least,
-            None => self.query.node_at(&Plain, &self.parts, self.node),
+            None => self.query.node_at(&Plain, &self.values, self.node),
         }
     }
 }
@@ -155,10 +157,7 @@ impl<K: Figure> Step<'_, '_, '_, K> {
 fn lower<K: Figure>(best: Option<K>, figure: K) -> K
     ensures { result ≡ lower K.ring best figure }
 {
-    match best {
-        Some(least) => lesser(least, figure),
-        None => figure,
-    }
+    best.map_or(figure, |least| lesser(least, figure))
 }
 
 /// Lists the options by rising number: how many there are.
@@ -170,41 +169,31 @@ fn list_options(table: &Table, out: &mut [u16]) -> usize
 {
     let mut count = 0;
     for (i, variable) in table.variables.as_slice().iter().enumerate() {
-        match variable.role {
-            Role::Option => {
-                out[count] = i as u16 + 1;
-                count += 1;
-            }
-            Role::Chance => {}
+        if variable.role == Role::Option {
+            out[count] = i as u16 + 1;
+            count += 1;
         }
     }
     count
 }
 
 impl<K: Figure> Query<'_, K> {
-    /// How many places a work table needs for the pair pass.
-    pub fn pair_room(&self) -> usize
-        ensures { result ≡ length (circuit self.now.table.now) * (2 * length (options_of (roles self.now.table.now)) + 1) }
-    {
-        self.table.nodes.len() * (2 * self.table.variables.options() + 1)
-    }
-
     /// Writes a node's part, from those of the nodes before it.
     fn write_part(&self, options: &[u16], node: usize, places: &[K], part: &mut [K])
         requires listed { options.now ≡ options_of (roles self.now.table.now) }
         requires node { node < length self.now.table.now.nodes.now }
-        requires part { length part.old ≡ 2 * length options.now + 1 }
-        requires places { length places.now ≡ node * (2 * length options.now + 1) }
-        ensures { part.new ≡ part_in K.ring (roles self.now.table.now) self.now.sheet.now self.now.holds.now.entries (circuit self.now.table.now) (2 * length options.now + 1) places.now node options.now }
+        requires part { length part.old ≡ stride (roles self.now.table.now) }
+        requires places { length places.now ≡ node * stride (roles self.now.table.now) }
+        ensures { part.new ≡ part_in K.ring (roles self.now.table.now) self.now.sheet.now self.now.holds.now.entries (circuit self.now.table.now) (stride (roles self.now.table.now)) places.now node options.now }
     {
-        let parts = Parts {
+        let values = NodeValues {
             places,
             stride: part.len(),
         };
         let step = Step {
             query: self,
             options,
-            parts,
+            values,
             node,
         };
         step.write_sides(part);
@@ -214,11 +203,11 @@ impl<K: Figure> Query<'_, K> {
     /// Writes the parts of the nodes, in order, by the list of the options.
     fn write_parts(&self, options: &[u16], work: &mut [K])
         requires listed { options.now ≡ options_of (roles self.now.table.now) }
-        requires room { length (circuit self.now.table.now) * (2 * length options.now + 1) ≤ length work.old }
-        ensures { work.new ≡ laid_out K.ring (roles self.now.table.now) self.now.sheet.now (pairs K.ring (roles self.now.table.now) self.now.sheet.now (circuit self.now.table.now) self.now.holds.now.entries) ++ drop (length (circuit self.now.table.now) * (2 * length options.now + 1)) work.old }
+        requires room { pair_places (roles self.now.table.now) (circuit self.now.table.now) ≤ length work.old }
+        ensures { work.new ≡ laid_out K.ring (roles self.now.table.now) self.now.sheet.now (pairs K.ring (roles self.now.table.now) self.now.sheet.now (circuit self.now.table.now) self.now.holds.now.entries) ++ drop (pair_places (roles self.now.table.now) (circuit self.now.table.now)) work.old }
     {
-        let stride = 2 * options.len() + 1;
-        // By number: each step is written behind the parts of the nodes before it.
+        let stride = stride(self.table);
+        // By number: what `write_part` asks of a node, and of those before it, goes by its number.
         for node in 0..self.table.nodes.len() {
             let (places, rest) = work.split_at_mut(node * stride);
             self.write_part(options, node, places, &mut rest[..stride]);
@@ -229,8 +218,8 @@ impl<K: Figure> Query<'_, K> {
     /// part has 2k + 1 places: the node's value, then each option's on and off value by rising
     /// number, zero where there is none.
     pub fn pair_pass(&self, work: &mut [K])
-        requires room { length (circuit self.now.table.now) * (2 * length (options_of (roles self.now.table.now)) + 1) ≤ length work.old }
-        ensures { work.new ≡ laid_out K.ring (roles self.now.table.now) self.now.sheet.now (pairs K.ring (roles self.now.table.now) self.now.sheet.now (circuit self.now.table.now) self.now.holds.now.entries) ++ drop (length (circuit self.now.table.now) * (2 * length (options_of (roles self.now.table.now)) + 1)) work.old }
+        requires room { pair_places (roles self.now.table.now) (circuit self.now.table.now) ≤ length work.old }
+        ensures { work.new ≡ laid_out K.ring (roles self.now.table.now) self.now.sheet.now (pairs K.ring (roles self.now.table.now) self.now.sheet.now (circuit self.now.table.now) self.now.holds.now.entries) ++ drop (pair_places (roles self.now.table.now) (circuit self.now.table.now)) work.old }
     {
         let mut numbers = [0; 64];
         let count = list_options(self.table, &mut numbers);

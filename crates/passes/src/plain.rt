@@ -5,9 +5,9 @@ ghost use Rattle.passes.specs.Passes.{plains};
 ghost use Rattle.passes.specs.Steps.{value_in};
 ghost use Rattle.passes.specs.Ways.{joined, plain_way};
 
-use crate::parts::Parts;
 use crate::query::Query;
 use crate::rule::Rule;
+use crate::values::NodeValues;
 use kinds::figure::Figure;
 use kinds::order::greater;
 
@@ -38,8 +38,8 @@ impl<K: Figure> Rule<K> for Plain {
         query.join(variable, on, off)
     }
 
-    fn child(&self, _query: &Query<K>, parts: &Parts<K>, node: u16) -> K {
-        parts.value(node)
+    fn child(&self, _query: &Query<K>, values: &NodeValues<K>, node: u16) -> K {
+        values.value(node)
     }
 }
 

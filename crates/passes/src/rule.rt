@@ -11,13 +11,14 @@ ghost use Rattle.passes.specs.Passes.{times};
 ghost use Rattle.passes.specs.Steps.{inside, ranged, readable};
 ghost use Rattle.passes.specs.Ways.{Way, made, walked};
 
-use crate::parts::Parts;
 use crate::query::Query;
+use crate::values::NodeValues;
 use kinds::figure::Figure;
 use text::record::{Form, Node};
 
 /// The rule of a pass: what a literal counts, what true counts, how a fork joins its branches, and
 /// what a node counts as a child of another.
+// Counting and Plain write the same `truth` and `child`; a body here must fit every rule's `way`.
 pub(crate) trait Rule<K: Figure> {
     ghost way: { Self → Query K → Way K };
 
@@ -39,46 +40,47 @@ pub(crate) trait Rule<K: Figure> {
         ensures { result ≡ (way self.now query.now).join variable on off };
 
     /// The value of a child.
-    fn child(&self, query: &Query<K>, parts: &Parts<K>, node: u16) -> K
-        requires fits { fits self.now parts.now.stride }
-        requires inside { inside (length parts.now.places.now) parts.now.stride node ≡ true }
-        ensures { result ≡ child_in self.now query.now parts.now.stride parts.now.places.now node };
+    fn child(&self, query: &Query<K>, values: &NodeValues<K>, node: u16) -> K
+        requires fits { fits self.now values.now.stride }
+        requires inside { inside (length values.now.places.now) values.now.stride node ≡ true }
+        ensures { result ≡ child_in self.now query.now values.now.stride values.now.places.now node };
 }
 
+// That a rule fits a stride stands in three contracts: a struct of both would be made at each side.
 impl<K: Figure> Query<'_, K> {
     /// The product of the children's values.
-    fn product<W: Rule<K>>(&self, rule: &W, parts: &Parts<K>, children: &[u16]) -> K
-        requires fits { W.fits rule.now parts.now.stride }
-        requires inside { list_all (inside (length parts.now.places.now) parts.now.stride) children.now ≡ true }
-        ensures { result ≡ times K.ring (map (W.child_in rule.now self.now parts.now.stride parts.now.places.now) children.now) }
+    fn product<W: Rule<K>>(&self, rule: &W, values: &NodeValues<K>, children: &[u16]) -> K
+        requires fits { W.fits rule.now values.now.stride }
+        requires inside { list_all (inside (length values.now.places.now) values.now.stride) children.now ≡ true }
+        ensures { result ≡ times K.ring (map (W.child_in rule.now self.now values.now.stride values.now.places.now) children.now) }
     {
         // A loop: the closure of a fold can't be told that each child may be read.
         let mut all = K::one();
         for child in children {
-            all = all.times(rule.child(self, parts, *child));
+            all = all.times(rule.child(self, values, *child));
         }
         all
     }
 
-    /// The value of a node, from the parts before it.
+    /// The value of a node, from the values before it.
     // Inlined, so that a side's variable is compared with the table's once, and not for each child.
     #[inline(always)]
-    fn node<W: Rule<K>>(&self, rule: &W, parts: &Parts<K>, node: Node) -> K
-        requires fits { W.fits rule.now parts.now.stride }
+    fn node<W: Rule<K>>(&self, rule: &W, values: &NodeValues<K>, node: Node) -> K
+        requires fits { W.fits rule.now values.now.stride }
         requires ranged { ranged self.now.table.now.children.now node ≡ true }
-        requires readable { readable (length (roles self.now.table.now)) (length parts.now.places.now) parts.now.stride (shape self.now.table.now.children.now node) ≡ true }
-        ensures { result ≡ made K.ring (W.way rule.now self.now) (W.child_in rule.now self.now parts.now.stride parts.now.places.now) (shape self.now.table.now.children.now node) }
+        requires readable { readable (length (roles self.now.table.now)) (length values.now.places.now) values.now.stride (shape self.now.table.now.children.now node) ≡ true }
+        ensures { result ≡ made K.ring (W.way rule.now self.now) (W.child_in rule.now self.now values.now.stride values.now.places.now) (shape self.now.table.now.children.now node) }
     {
         let children = self.table.children;
         let first = node.first as usize;
         match node.form {
             Form::Literal { variable, on } => rule.literal(self, variable, on),
             Form::And => {
-                self.product(rule, parts, &children[first..first + node.count as usize])
+                self.product(rule, values, &children[first..first + node.count as usize])
             }
             Form::Fork { variable } => {
-                let on = rule.child(self, parts, children[first]);
-                let off = rule.child(self, parts, children[first + 1]);
+                let on = rule.child(self, values, children[first]);
+                let off = rule.child(self, values, children[first + 1]);
                 rule.join(self, variable, on, off)
             }
             Form::True => rule.truth(self),
@@ -86,15 +88,15 @@ impl<K: Figure> Query<'_, K> {
         }
     }
 
-    /// The value of a node by its number, from the parts before it.
+    /// The value of a node by its number, from the values before it.
     #[inline(always)]
-    pub(crate) fn node_at<W: Rule<K>>(&self, rule: &W, parts: &Parts<K>, number: usize) -> K
-        requires fits { W.fits rule.now parts.now.stride }
+    pub(crate) fn node_at<W: Rule<K>>(&self, rule: &W, values: &NodeValues<K>, number: usize) -> K
+        requires fits { W.fits rule.now values.now.stride }
         requires node { number < length self.now.table.now.nodes.now }
-        requires before { length parts.now.places.now ≡ number * parts.now.stride }
-        ensures { result ≡ made K.ring (W.way rule.now self.now) (W.child_in rule.now self.now parts.now.stride parts.now.places.now) (node (circuit self.now.table.now) number) }
+        requires before { length values.now.places.now ≡ number * values.now.stride }
+        ensures { result ≡ made K.ring (W.way rule.now self.now) (W.child_in rule.now self.now values.now.stride values.now.places.now) (node (circuit self.now.table.now) number) }
     {
-        self.node(rule, parts, self.table.nodes[number])
+        self.node(rule, values, self.table.nodes[number])
     }
 
     /// Writes the values of the nodes, in order, into the first places of `work`.
@@ -103,13 +105,13 @@ impl<K: Figure> Query<'_, K> {
         requires room { length (circuit self.now.table.now) ≤ length work.old }
         ensures { work.new ≡ upward (walked K.ring (W.way rule.now self.now) (W.child_in rule.now self.now 1)) (circuit self.now.table.now) ++ drop (length (circuit self.now.table.now)) work.old }
     {
-        // By number: each step is written behind the values of the nodes before it.
+        // By number: what `node_at` asks of a node, and of the values before it, goes by its number.
         for number in 0..self.table.nodes.len() {
-            let parts = Parts {
+            let values = NodeValues {
                 places: &work[..number],
                 stride: 1,
             };
-            work[number] = self.node_at(rule, &parts, number);
+            work[number] = self.node_at(rule, &values, number);
         }
     }
 }

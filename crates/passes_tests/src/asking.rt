@@ -2,6 +2,7 @@
 use kinds::figure::Figure;
 use parts::stores::Room;
 use passes::holds::Holds;
+use passes::places::pair_places;
 use passes::query::Query;
 use plants::stores::Stores;
 use std::alloc::Global;
@@ -41,7 +42,7 @@ fn run<K: Figure>(table: &Table, sheet: &[K], holds: &Holds, work: &mut [K]) -> 
         holds,
     };
     // All of it is lent: what the passes do not write is looked at afterwards.
-    if work.len() < query.pair_room() {
+    if work.len() < pair_places(table) {
         return None;
     }
     let figure = query.count_figure(work);
@@ -78,8 +79,6 @@ pub(crate) fn ask<K: Figure>(
     holds: &Holds,
     work: &mut [K],
 ) -> Result<Answers<K>, Fail> {
-    let nodes = stores.nodes.as_slice();
-    let children = stores.children.as_slice();
-    let table = Table::check(nodes, children, stores.variables).map_err(|_| Fail::new("refused"))?;
+    let table = stores.table().map_err(|_| Fail::new("refused"))?;
     run(&table, sheet, holds, work).ok_or_else(|| Fail::new("a store is too short"))
 }

@@ -1,92 +1,95 @@
 -- Strongest lean, one choice after the other. Assumes nothing.
-use Rattle.std.specs.List.{list_all}
-use Rattle.std.proofs.Common.{◌≡◌, ℕ, ◌+◌, ◌<◌, ◌≤◌, Bool, true, false, cond, List, [], ◌∷◌, length, get_or, drop, Some, None, Option, sym, refl, ap, ◌∙◌, subst, not-suc-le-zero}
-use Rattle.std.proofs.lemmas.List.{at_drop_more, at_drop_all}
-use Rattle.std.proofs.lemmas.Bool.{cond-true, cond-false, cond_both}
+use Rattle.std.specs.List.{list_all, filter, fold, reduce, FoldsTo}
+use Rattle.std.specs.Iterator.{AfterFirst, AlwaysYields, CallableInFold, Drains, DrainsIf, FoldTurn, ReducesItems, Yields}
+use Rattle.std.specs.Fn.{Takes, Called}
+use denote.Param.Members.{Mut}
+use Rattle.std.proofs.lemmas.Iterator.{YieldsList, items_from_drains}
+use Rattle.std.proofs.lemmas.List.{map-id}
+use Rattle.std.proofs.lemmas.Bool.{and_from, and_parts, cond_both}
+use Rattle.std.proofs.Common.{◌≡◌, ℕ, ◌<◌, Bool, true, false, cond, List, [], ◌∷◌, length, get_or, Some, None, Option, sym, refl, ap, ◌∙◌, subst, not-suc-le-zero}
 use Rattle.std.specs.Option.{unwrap_or}
 use Rattle.kinds.specs.Semiring.{Semiring}
-use Rattle.table.proofs.Folds.{every_here}
-use Rattle.passes.specs.Holding.{filter}
+use Rattle.passes.specs.Holding.{filter as kept_by}
 use Rattle.search.specs.declared.choice.Choice.{Choice}
-use Rattle.search.specs.Orders.{Lean, lowest, weaker, weakest, weakest_or, strongest, lean_at, told, placed, best_placed, stronger, leading}
+use Rattle.search.specs.Orders.{lowest, weaker, weakest, weakest_or, strongest, lean_at, told, placed, stronger}
 
 module _ {F : Type 0} (R : Semiring F) (part : List F) where
   pub lowest_told : (cs : List Choice) → 0 < length cs → (d : Choice) → (get_or cs 0 d).option ≡ lowest (told R part cs)
   lowest_told [] h d = absurd (not-suc-le-zero h)
   lowest_told (c ∷ cs) h d = refl
 
-  -- the answer from the best so far and the choices that are left
-  abbrev pub answer_after : ℕ → Option Choice → List Choice → ℕ
-  answer_after v None cs = weakest_or R v (filter (λ l. l.mentioned) (told R part cs))
-  answer_after v (Some b) cs = (weakest R (lean_at R part b) (filter (λ l. l.mentioned) (told R part cs))).option
+  mentioned_told : (cs : List Choice) → kept_by (λ l. l.mentioned) (told R part cs) ≡ told R part (filter (λ c. c.mentioned) cs)
+  mentioned_told [] = refl
+  mentioned_told (c ∷ cs) = ap (λ ls. cond c.mentioned (lean_at R part c ∷ ls) ls) (mentioned_told cs) ∙ by c.mentioned (filter (λ c. c.mentioned) cs)
+    where
+      by : (b : Bool) (ms : List Choice) → cond b (lean_at R part c ∷ told R part ms) (told R part ms) ≡ told R part (cond b (c ∷ ms) ms)
+      by true ms = refl
+      by false ms = refl
 
-  lean_cond : (t : Bool) (b c : Choice) → cond t (lean_at R part b) (lean_at R part c) ≡ lean_at R part (cond t b c)
-  lean_cond true b c = refl
-  lean_cond false b c = refl
+  weakest_told : (b : Choice) (cs : List Choice) → weakest R (lean_at R part b) (told R part cs) ≡ lean_at R part (fold (stronger R part) b cs)
+  weakest_told b [] = refl
+  weakest_told b (c ∷ cs) = ap (λ l. weakest R l (told R part cs)) (by (R.upto (weaker R (lean_at R part b)) (weaker R (lean_at R part c)))) ∙ weakest_told (stronger R part b c) cs
+    where
+      by : (t : Bool) → cond t (lean_at R part b) (lean_at R part c) ≡ lean_at R part (cond t b c)
+      by true = refl
+      by false = refl
 
-  mentioned_first : (c : Choice) (cs : List Choice) → c.mentioned ≡ true
-      → filter (λ l. l.mentioned) (told R part (c ∷ cs)) ≡ lean_at R part c ∷ filter (λ l. l.mentioned) (told R part cs)
-  mentioned_first c cs t = cond-true c.mentioned _ _ t
+  weakest_or_told : (v : ℕ) (d : Choice) → d.option ≡ v → (ms : List Choice) → (unwrap_or (reduce (stronger R part) ms) d).option ≡ weakest_or R v (told R part ms)
+  weakest_or_told v d e [] = e
+  weakest_or_told v d e (m ∷ ms) = ap (λ l. l.option) (sym (weakest_told m ms))
 
-  answer_taken : (v : ℕ) (best : Option Choice) (c : Choice) (cs : List Choice) → c.mentioned ≡ true
-      → answer_after v best (c ∷ cs) ≡ answer_after v (Some (stronger R part best c)) cs
-  answer_taken v None c cs t = ap (weakest_or R v) (mentioned_first c cs t)
-  answer_taken v (Some b) c cs t =
-      let rest : List (Lean F) = filter (λ l. l.mentioned) (told R part cs) in
-      ap (λ ls. (weakest R (lean_at R part b) ls).option) (mentioned_first c cs t)
-      ∙ ap (λ l. (weakest R l rest).option) (lean_cond (R.upto (weaker R (lean_at R part b)) (weaker R (lean_at R part c))) b c)
+  stronger_placed : (size : ℕ) (b c : Choice) → placed size b ≡ true → placed size c ≡ true → placed size (stronger R part b c) ≡ true
+  stronger_placed size b c p q = cond_both (R.upto (weaker R (lean_at R part b)) (weaker R (lean_at R part c))) b c (λ x. placed size x ≡ true) (λ _. p) (λ _. q)
 
-  answer_left : (v : ℕ) (best : Option Choice) (c : Choice) (cs : List Choice) → c.mentioned ≡ false
-      → answer_after v best (c ∷ cs) ≡ answer_after v best cs
-  answer_left v None c cs t = ap (weakest_or R v) (cond-false c.mentioned _ _ t)
-  answer_left v (Some b) c cs t = ap (λ ls. (weakest R (lean_at R part b) ls).option) (cond-false c.mentioned _ _ t)
+  -- `reduce` may call a closure f that gives the stronger of two choices in the part, if all choices stand in it.
+  module _ {S G : Type 0} (steps : S → Option Choice → S → Type 0) (g : Mut G (Choice × (Choice × Unit {0})) Choice) (f : G) (size : ℕ)
+      (may : (b c : Choice) → placed size b ≡ true → placed size c ≡ true → Takes g f (b, (c, tt)))
+      (gives : (b c r : Choice) (q : G) → Called g f (b, (c, tt)) r q → (q ≡ f) × (r ≡ stronger R part b c)) where
+    callable_at : (all xs : List Choice) (s t u : S) (p q : G × Choice) (x : Choice) → AlwaysYields steps (λ c. c) s all → list_all (placed size) all ≡ true
+        → p.0 ≡ f → placed size p.1 ≡ true → Yields steps s xs t → FoldsTo (FoldTurn g) p xs q → steps t (Some x) u → Takes g q.0 (q.1, (x, tt))
+    callable_at [] [] s t u p q x a h e best c d n = absurd (a x u (subst (λ r. steps r (Some x) u) (sym c) n))
+    callable_at [] (z ∷ zs) s t u p q x a h e best c d n = absurd (a z c.0 c.1)
+    callable_at (y ∷ ys) [] s t u p q x a h e best c d n =
+        let same : x ≡ y = (a.1 x u (subst (λ r. steps r (Some x) u) (sym c) n)).0 in
+        let here : placed size x ≡ true = ap (placed size) same ∙ (and_parts _ _ h).0 in
+        subst (λ r. Takes g r.0 (r.1, (x, tt))) d (subst (λ k. Takes g k (p.1, (x, tt))) (sym e) (may p.1 x best here))
+    callable_at (y ∷ ys) (z ∷ zs) s t u p q x a h e best c d n =
+        let next = a.1 z c.0 c.1 in
+        let here : placed size z ≡ true = ap (placed size) next.0 ∙ (and_parts _ _ h).0 in
+        let turn = gives p.1 z d.0.1 d.0.0 (subst (λ k. Called g k (p.1, (z, tt)) d.0.1 d.0.0) e d.1) in
+        callable_at ys zs c.0 t u d.0 q x next.1 (and_parts _ _ h).1 turn.0 (ap (placed size) turn.1 ∙ stronger_placed size p.1 z best here) c.2 d.2 n
 
-  stronger_placed : (best : Option Choice) (c : Choice) → best_placed (length part) best ≡ true → placed (length part) c ≡ true
-      → placed (length part) (stronger R part best c) ≡ true
-  stronger_placed None c p q = q
-  stronger_placed (Some b) c p q = cond_both (R.upto (weaker R (lean_at R part b)) (weaker R (lean_at R part c))) b c (λ x. placed (length part) x ≡ true) (λ _. p) (λ _. q)
+    pub reduce_callable : {s : S} (all : List Choice) → YieldsList steps (λ c. c) s all → list_all (placed size) all ≡ true → AfterFirst steps s (λ x t. CallableInFold steps g t f x)
+    reduce_callable [] road h x t first = absurd (road.runs x t first)
+    reduce_callable (y ∷ ys) road h x t first =
+        let next = road.runs.1 x t first in
+        record { at = λ xs t' q z u c d n. callable_at ys xs t t' u (f, x) q z next.1 (and_parts _ _ h).1 refl (ap (placed size) next.0 ∙ (and_parts _ _ h).0) c d n }
 
-  -- what holds before choice i is looked at
-  pub record Leading (cs : List Choice) (best : Option Choice) (i : ℕ) : Type 0 where
-    pub answer : answer_after (lowest (told R part cs)) best (drop i cs) ≡ strongest R (told R part cs)
-    pub best_in : best_placed (length part) best ≡ true
-    pub rest_in : list_all (placed (length part)) (drop i cs) ≡ true
+    fold_given : (xs : List Choice) (p q : G × Choice) → p.0 ≡ f → FoldsTo (FoldTurn g) p xs q → q.1 ≡ fold (stronger R part) p.1 xs
+    fold_given [] p q e d = sym (ap (λ r. r.1) d)
+    fold_given (z ∷ zs) p q e d =
+        let turn = gives p.1 z d.0.1 d.0.0 (subst (λ k. Called g k (p.1, (z, tt)) d.0.1 d.0.0) e d.1) in
+        fold_given zs d.0 q turn.0 d.2 ∙ ap (λ b. fold (stronger R part) b zs) turn.1
 
-  module _ (cs : List Choice) (best : Option Choice) (i : ℕ) (d : Choice) where
-    pub here_placed : i < length cs → Leading cs best i → placed (length part) (get_or cs i d) ≡ true
-    here_placed h inv = (every_here (placed (length part)) cs i d h inv.rest_in).0
+    run_out : (s : S) (xs : List Choice) → Drains steps s xs → DrainsIf steps (Unit {0}) s xs
+    run_out s xs d = (d.1.0, d.1.1, λ _. (d.0, d.1.2))
 
-    leading_taken : i < length cs → (get_or cs i d).mentioned ≡ true → Leading cs best i → Leading cs (Some (stronger R part best (get_or cs i d))) (i + 1)
-    leading_taken h t inv =
-        let v : ℕ = lowest (told R part cs) in
-        let here = every_here (placed (length part)) cs i d h inv.rest_in in
-        record {
-          answer = sym (answer_taken v best (get_or cs i d) (drop (i + 1) cs) t) ∙ sym (at_drop_more (answer_after v best) cs i d h) ∙ inv.answer;
-          best_in = stronger_placed best (get_or cs i d) inv.best_in here.0;
-          rest_in = here.1;
-        }
+    pub reduce_given : {s : S} (all : List Choice) → YieldsList steps (λ c. c) s all → (r : Option Choice) → ReducesItems steps g s f r → r ≡ reduce (stronger R part) all
+    reduce_given {s} all road None d = ap (reduce (stronger R part)) (items_from_drains [] (run_out s [] d) road)
+    reduce_given {s} all road (Some y) d =
+        ap Some (fold_given d.1 (f, d.0) (d.2, y) refl d.4) ∙ ap (reduce (stronger R part)) (sym (map-id (d.0 ∷ d.1)) ∙ items_from_drains (d.0 ∷ d.1) (run_out s (d.0 ∷ d.1) d.3) road)
 
-    leading_left : i < length cs → (get_or cs i d).mentioned ≡ false → Leading cs best i → Leading cs best (i + 1)
-    leading_left h t inv =
-        let v : ℕ = lowest (told R part cs) in
-        record {
-          answer = sym (answer_left v best (get_or cs i d) (drop (i + 1) cs) t) ∙ sym (at_drop_more (answer_after v best) cs i d h) ∙ inv.answer;
-          best_in = inv.best_in;
-          rest_in = (every_here (placed (length part)) cs i d h inv.rest_in).1;
-        }
+  -- the strongest of the choices that the root mentions, or else the first of all
+  pub strongest_told : (cs : List Choice) → 0 < length cs → (d x : Choice) (r : Option Choice) → x ≡ unwrap_or r (get_or cs 0 d)
+      → r ≡ reduce (stronger R part) (filter (λ c. c.mentioned) cs) → x.option ≡ strongest R (told R part cs)
+  strongest_told cs some d x r e is =
+      ap (λ c. c.option) (e ∙ ap (λ o. unwrap_or o (get_or cs 0 d)) is)
+      ∙ weakest_or_told (lowest (told R part cs)) (get_or cs 0 d) (lowest_told cs some d) (filter (λ c. c.mentioned) cs)
+      ∙ sym (ap (weakest_or R (lowest (told R part cs))) (mentioned_told cs))
 
-    pub leading_more : (next : Option Choice) → i < length cs → next ≡ leading R part best (get_or cs i d) → Leading cs best i → Leading cs next (i + 1)
-    leading_more next h e inv =
-        let after : Option Choice → Type 0 = λ o. Leading cs o (i + 1) in
-        subst after (sym e) (cond_both (get_or cs i d).mentioned _ _ after (λ t. leading_taken h t inv) (λ t. leading_left h t inv))
-
-  pub leading_over : (cs : List Choice) (best found : Option Choice) (i : ℕ) → length cs ≤ i → best ≡ found → Leading cs best i
-      → answer_after (lowest (told R part cs)) found [] ≡ strongest R (told R part cs)
-  leading_over cs best found i h e inv =
-      let v : ℕ = lowest (told R part cs) in
-      sym (ap (λ b. answer_after v b []) e) ∙ sym (at_drop_all (answer_after v best) cs i h) ∙ inv.answer
-
-  -- the best that is found, or else the first of all
-  pub found_or : (v : ℕ) (found : Option Choice) (d : Choice) → d.option ≡ v → (unwrap_or found d).option ≡ answer_after v found []
-  found_or v None d e = e
-  found_or v (Some b) d e = refl
+pub filter_placed : (size : ℕ) (cs : List Choice) → list_all (placed size) cs ≡ true → list_all (placed size) (filter (λ c. c.mentioned) cs) ≡ true
+filter_placed size [] h = refl
+filter_placed size (c ∷ cs) h =
+    let parts = and_parts (placed size c) (list_all (placed size) cs) h in
+    let rest : list_all (placed size) (filter (λ c. c.mentioned) cs) ≡ true = filter_placed size cs parts.1 in
+    cond_both c.mentioned (c ∷ filter (λ c. c.mentioned) cs) (filter (λ c. c.mentioned) cs) (λ xs. list_all (placed size) xs ≡ true) (λ _. and_from _ _ parts.0 rest) (λ _. rest)

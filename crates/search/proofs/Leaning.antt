@@ -8,13 +8,13 @@ use Rattle.table.specs.Sound.{Roles, options}
 use Rattle.table.proofs.Upward.{upward_length, root_last}
 use Rattle.passes.specs.Holding.{Entries}
 use Rattle.passes.specs.Passes.{no_part, count, counts, pair, pairs, root_part, work}
+use Rattle.passes.specs.Places.{stride as stride_of, pair_places}
 use Rattle.passes.specs.Rows.{side_place}
 use Rattle.passes.proofs.Roots.{last_part}
 use Rattle.passes.proofs.Rowing.{work_length, side_there}
 use Rattle.search.specs.Listing.{choices, root_mentions}
 use Rattle.search.specs.Orders.{Order, told}
 use Rattle.search.specs.Select.{leans}
-use Rattle.search.specs.Study.{pair_places}
 use Rattle.search.proofs.Told.{told_is}
 
 module _ {F : Type 0} (R : Semiring F) (rs : Roles) (ss : List Shape) (sheet : List F) where
@@ -22,7 +22,7 @@ module _ {F : Type 0} (R : Semiring F) (rs : Roles) (ss : List Shape) (sheet : L
   pub parts_kept : (h : Entries) (store before : List F) → store ≡ work R rs sheet (pairs R rs sheet ss h) ++ drop (pair_places rs ss) before
       → drop (pair_places rs ss) store ≡ drop (pair_places rs ss) before
   parts_kept h store before is =
-      let wide = 2 * length (options rs) + 1 in
+      let wide = stride_of rs in
       ap (drop (pair_places rs ss)) is
       ∙ drop-append-drop (pair_places rs ss) before (work R rs sheet (pairs R rs sheet ss h)) (pair_places rs ss) (omega arith)
       (work_length R rs sheet wide refl (pairs R rs sheet ss h) ∙ ap (λ n. n * wide) (upward_length (pair R rs sheet (mentions ss) h) ss))
@@ -41,12 +41,12 @@ module _ {F : Type 0} (R : Semiring F) (pick : Order F) (rs : Roles) (ss : List 
   abbrev part : List F
   part = take (base + stride - base) (drop base store)
 
-  within : (i : ℕ) (b : Bool) → stride ≡ 2 * length (options rs) + 1 → i < length (options rs) → side_place i b < stride
+  within : (i : ℕ) (b : Bool) → stride ≡ stride_of rs → i < length (options rs) → side_place i b < stride
   within i true wide l = omega arith
   within i false wide l = omega arith
 
   -- the root's part tells what an order is told
-  pub told_leans : stride ≡ 2 * length (options rs) + 1 → 1 ≤ length ss → base ≡ (length ss - 1) * stride → store ≡ work R rs sheet (pairs R rs sheet ss h) ++ rest
+  pub told_leans : stride ≡ stride_of rs → 1 ≤ length ss → base ≡ (length ss - 1) * stride → store ≡ work R rs sheet (pairs R rs sheet ss h) ++ rest
       → told R (take (base + stride - base) (drop base store)) (choices rs ss h) ≡ leans R pick rs ss sheet h
   told_leans wide some at is = told_is (root_mentions ss) h R part (root_part R rs sheet ss h) 0 (options rs) reads
     where

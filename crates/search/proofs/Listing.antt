@@ -1,5 +1,6 @@
--- The free options, one variable after the other. Assumes nothing.
-use Rattle.std.proofs.Common.{◌≡◌, ℕ, ◌+◌, ◌<◌, ◌≤◌, Bool, true, false, cond, List, [], ◌∷◌, ◌++◌, length, take, drop, sym, refl, ap, ◌∙◌, append_assoc, add-one, arith}
+-- The options, and the free ones among them, one after the other. Assumes nothing.
+use Rattle.std.proofs.Common.{◌≡◌, ℕ, suc, ◌+◌, ◌<◌, ◌≤◌, Bool, true, false, cond, List, [], ◌∷◌, ◌++◌, length, get_or, take, drop, sym, refl, ap, ◌∙◌, ap₂, append_assoc, add-zero, arith}
+use Rattle.std.specs.List.{filter, range_with_len}
 use Rattle.std.proofs.lemmas.List.{at_drop_more, at_drop_all, append-nil}
 use Rattle.std.proofs.lemmas.Bool.{cond-false, ne_eqb}
 use Rattle.table.specs.Circuit.{Vars}
@@ -15,13 +16,34 @@ use Rattle.search.specs.Listing.{choice_of, choices_from}
 pub entry_read : (h : Entries) (v : ℕ) → 0 < v → entry_at h v ≡ entry h v
 entry_read h v some = cond-false _ Free (entry h v) (ne_eqb v 0 (λ e. omega arith))
 
-module _ (m : Vars) (h : Entries) (rs : Roles) where
-  -- what a loop over the variables keeps: n choices are listed of the j options among the first i variables
-  pub record Listing (start out : List Choice) (n j i : ℕ) : Type 0 where
-    pub listed : take n out ++ choices_from m h j (from (i + 1) true (drop i rs)) ≡ choices_from m h 0 (options rs)
+-- the options among the variables from i on, whose roles are rs
+option_filter : (all : Roles) (i : ℕ) (rs : Roles) → ((k : ℕ) → is_option all (i + k) ≡ get_or rs k false) → filter (is_option all) (range_with_len i (length rs)) ≡ from i true rs
+option_filter all i [] e = refl
+option_filter all i (r ∷ rs) e =
+    let here : is_option all i ≡ r = ap (is_option all) (sym (add-zero i)) ∙ e 0 in
+    let rest = option_filter all (i + 1) rs (λ k. ap (is_option all) (let z : i + 1 + k ≡ i + suc k = omega arith in z) ∙ e (suc k)) in
+    ap₂ (λ o vs. cond o (i ∷ vs) vs) here rest ∙ by r
+  where
+    by : (r : Bool) → cond r (i ∷ from (i + 1) true rs) (from (i + 1) true rs) ≡ from i true (r ∷ rs)
+    by true = refl
+    by false = refl
+
+pub options_filtered : (rs : Roles) → filter (is_option rs) (range_with_len 1 (length rs)) ≡ options rs
+options_filtered rs = option_filter rs 1 rs (λ k. ap (is_option rs) (let z : 1 + k ≡ suc k = omega arith in z) ∙ role_at rs k)
+
+pub options_few : (rs : Roles) → length (options rs) ≤ length rs
+options_few rs = few 1 rs
+  where
+    few : (i : ℕ) (rs : Roles) → length (from i true rs) ≤ length rs
+    few i [] = omega arith
+    few i (true ∷ rs) = let e : length (from (i + 1) true rs) ≤ length rs = few (i + 1) rs in omega arith
+    few i (false ∷ rs) = let e : length (from (i + 1) true rs) ≤ length rs = few (i + 1) rs in omega arith
+
+module _ (m : Vars) (h : Entries) (os : List ℕ) where
+  -- what a loop over the options os keeps: n choices are listed of the first j
+  pub record Listing (out : List Choice) (n j : ℕ) : Type 0 where
+    pub listed : take n out ++ choices_from m h j (drop j os) ≡ choices_from m h 0 os
     pub fewer : n ≤ j
-    pub few : j ≤ i
-    pub long : length out ≡ length start
 
   one_choice : (j v : ℕ) (vs : List ℕ) → choices_from m h j (v ∷ vs) ≡ choices_from m h j (v ∷ []) ++ choices_from m h (j + 1) vs
   one_choice j v vs = by (is_free (entry h v))
@@ -31,40 +53,20 @@ module _ (m : Vars) (h : Entries) (rs : Roles) where
       by true = refl
       by false = refl
 
-  module _ (start out : List Choice) (n j i : ℕ) (inv : Listing start out n j i) where
-    role_here : (b : Bool) → i < length rs → is_option rs (i + 1) ≡ b → from (i + 1) true (drop i rs) ≡ from (i + 1) true (b ∷ drop (i + 1) rs)
-    role_here b l e =
-        at_drop_more (from (i + 1) true) rs i false l
-        ∙ ap (λ r. from (i + 1) true (r ∷ drop (i + 1) rs)) (sym (ap (is_option rs) (add-one i) ∙ role_at rs i) ∙ e)
-
-    pub list_option : (out' : List Choice) (n' : ℕ) → i < length rs → is_option rs (i + 1) ≡ true
-        → take n' out' ≡ take n out ++ choices_from m h j ((i + 1) ∷ []) → n' ≤ n + 1 → length out' ≡ length out
-        → Listing start out' n' (j + 1) (i + 1)
-    list_option out' n' l e is less same =
-        let rest : List ℕ = from (i + 1 + 1) true (drop (i + 1) rs) in
+  module _ (out : List Choice) (n j : ℕ) (inv : Listing out n j) where
+    pub one_listed : (out' : List Choice) (n' v : ℕ) → j < length os → v ≡ get_or os j v
+        → take n' out' ≡ take n out ++ choices_from m h j (v ∷ []) → n' ≤ n + 1 → Listing out' n' (j + 1)
+    one_listed out' n' v l e is less =
+        let rest : List ℕ = drop (j + 1) os in
         let a : n ≤ j = inv.fewer in
-        let b : j ≤ i = inv.few in
         record {
           listed = ap (λ xs. xs ++ choices_from m h (j + 1) rest) is
-              ∙ append_assoc (take n out) (choices_from m h j ((i + 1) ∷ [])) (choices_from m h (j + 1) rest)
-              ∙ ap (λ xs. take n out ++ xs) (sym (one_choice j (i + 1) rest) ∙ sym (ap (choices_from m h j) (role_here true l e)))
+              ∙ append_assoc (take n out) (choices_from m h j (v ∷ [])) (choices_from m h (j + 1) rest)
+              ∙ ap (λ xs. take n out ++ xs) (sym (one_choice j v rest) ∙ ap (λ x. choices_from m h j (x ∷ rest)) e ∙ sym (at_drop_more (choices_from m h j) os j v l))
               ∙ inv.listed;
           fewer = omega arith;
-          few = omega arith;
-          long = same ∙ inv.long;
         }
 
-    pub list_chance : i < length rs → is_option rs (i + 1) ≡ false → Listing start out n j (i + 1)
-    list_chance l e =
-        let b : j ≤ i = inv.few in
-        record {
-          listed = sym (ap (λ vs. take n out ++ choices_from m h j vs) (role_here false l e)) ∙ inv.listed;
-          fewer = inv.fewer;
-          few = omega arith;
-          long = inv.long;
-        }
-
-    pub all_listed : length rs ≤ i → take n out ≡ choices_from m h 0 (options rs)
+    pub all_listed : length os ≤ j → take n out ≡ choices_from m h 0 os
     all_listed l =
-        sym (append-nil (take n out))
-        ∙ sym (ap (λ vs. take n out ++ choices_from m h j vs) (at_drop_all (from (i + 1) true) rs i l)) ∙ inv.listed
+        sym (append-nil (take n out)) ∙ sym (ap (λ xs. take n out ++ xs) (at_drop_all (choices_from m h j) os j l)) ∙ inv.listed

@@ -12,7 +12,8 @@ use Rattle.passes.specs.declared.sheet.Sheet.{Sheet}
 use Rattle.passes.specs.Holding.{Entries, selected}
 use Rattle.passes.specs.Marks.{with_entry}
 use Rattle.passes.specs.Passes.{counts, pairs, work, bound}
-use Rattle.search.specs.Study.{Tests, hold_tests, release_tests, weigh_tests, figure_tests, bound_tests, trial_tests, pair_places}
+use Rattle.passes.specs.Places.{pair_places}
+use Rattle.search.specs.Study.{Tests, hold_tests, release_tests, weigh_tests, figure_tests, bound_tests, trial_tests}
 
 -- the holds with one entry changed
 abbrev pub entries_with : Holds → ℕ → Entry → Entries

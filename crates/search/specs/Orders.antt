@@ -1,5 +1,5 @@
 -- Branching orders: which free option to branch on next. Assumes nothing.
-use Rattle.std.specs.Prelude.{◌≡◌, ℕ, ◌+◌, ◌≤◌, Bool, true, false, cond, ◌&&◌, ltb, List, [], ◌∷◌, map, Some, None, Option, nat_eq, nat_lt, slice_index_or}
+use Rattle.std.specs.Prelude.{◌≡◌, ℕ, ◌+◌, ◌≤◌, Bool, true, false, cond, ◌&&◌, ltb, List, [], ◌∷◌, map, nat_eq, nat_lt, slice_index_or}
 use Rattle.std.specs.List.{list_all, list_any}
 use Rattle.kinds.specs.Semiring.{Semiring, lesser}
 use Rattle.table.specs.Facts.{Among}
@@ -94,16 +94,6 @@ options_of cs = map (λ c. c.option) cs
 abbrev pub placed : ℕ → Choice → Bool
 placed size c = nat_lt (c.place + 1) size
 
--- whether the values of the best choice so far, if there is one, are in the part
-abbrev pub best_placed : ℕ → Option Choice → Bool
-best_placed size None = true
-best_placed size (Some c) = placed size c
-
--- the best choice so far, or c if its weaker value ranks lower
-abbrev pub stronger : {F : Type 0} → Semiring F → List F → Option Choice → Choice → Choice
-stronger R part None c = c
-stronger R part (Some b) c = cond (R.upto (weaker R (lean_at R part b)) (weaker R (lean_at R part c))) b c
-
--- the best of the mentioned choices, with one choice more
-abbrev pub leading : {F : Type 0} → Semiring F → List F → Option Choice → Choice → Option Choice
-leading R part best c = cond c.mentioned (Some (stronger R part best c)) best
+-- of two choices the first, or the second if its weaker value ranks lower
+abbrev pub stronger : {F : Type 0} → Semiring F → List F → Choice → Choice → Choice
+stronger R part b c = cond (R.upto (weaker R (lean_at R part b)) (weaker R (lean_at R part c))) b c

@@ -1,10 +1,11 @@
 -- The calls of a study: which refusals can meet them, and what follows. Assumes nothing.
-use Rattle.std.specs.Prelude.{ℕ, ◌+◌, ◌*◌, Bool, cond, not, ◌&&◌, List, [], ◌∷◌, length, Some, None, Ok, Err, Option, Result, nat_lt}
+use Rattle.std.specs.Prelude.{ℕ, ◌*◌, Bool, cond, not, ◌&&◌, List, [], ◌∷◌, length, Some, None, Ok, Err, Option, Result, nat_lt}
 use Rattle.std.specs.List.{list_any}
 use Rattle.table.specs.Circuit.{Shape}
 use Rattle.table.specs.Sound.{Roles, is_option, options, known, up_to}
 use Rattle.passes.specs.Holding.{Entries, entry, is_free}
 use Rattle.passes.specs.Marks.{entry_at}
+use Rattle.passes.specs.Places.{pair_places}
 use Rattle.search.specs.declared.fault.Fault.{Fault}
 use Rattle.search.specs.declared.fault.Fault.TheVariants.{ShortSheet, StrayHold, NoOption, NoChance, Held, NotHeld, StillFree, ShortWork}
 
@@ -31,7 +32,7 @@ answered ts a = answer_unless (first_fit ts) a
 
 -- a single refusal, as the test for it answers
 abbrev pub passed : Bool × Fault → Result (Unit {0}) Fault
-passed t = cond t.0 (Err t.1) (Ok tt)
+passed t = answered (t ∷ []) tt
 
 -- what is new, or what was before if a refusal fits
 abbrev pub changed_to : {A : Type 0} → Tests → A → A → A
@@ -64,10 +65,6 @@ not_held h v = (is_free (entry_at h v), NotHeld v)
 -- a work table of so many figures is shorter than what is wanted
 abbrev pub short_work : ℕ → ℕ → Bool × Fault
 short_work size wanted = (nat_lt size wanted, ShortWork)
-
--- how many places the pair pass writes
-abbrev pub pair_places : Roles → List Shape → ℕ
-pair_places rs ss = length ss * (2 * length (options rs) + 1)
 
 -- The refusals that each call can meet, by rising number.
 

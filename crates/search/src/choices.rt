@@ -1,7 +1,7 @@
 //! The free options, and the one that an order names.
 ghost use Rattle.std.specs.Prelude.{◌≡◌, ◌+◌, ◌*◌, ◌<◌, ◌≤◌, [], ◌∷◌, ◌++◌, length, take};
-ghost use Rattle.table.specs.Sound.{options};
 ghost use Rattle.table.specs.Whole.{circuit, roles};
+ghost use Rattle.passes.specs.Places.{stride};
 ghost use Rattle.search.specs.Listing.{choices_from, root_mentions, choices as choices_of};
 ghost use Rattle.search.specs.Orders.{told};
 ghost use Rattle.search.specs.Select.{named};
@@ -47,15 +47,11 @@ fn list_choices(table: &Table, holds: &Holds, out: &mut [Choice]) -> usize
     ensures listed { take result out.new ≡ choices_of (roles table.now) (circuit table.now) holds.now.entries }
     ensures few { result ≤ length (roles table.now) }
 {
-    // Two counts: places go by `index`, over all options, and `count` is that of the free ones.
+    let variables = table.variables.as_slice().len() as u16;
+    let options = (1..variables + 1).filter(|variable| table.has_option(*variable));
     let mut count = 0;
-    let mut index = 0;
-    for i in 0..table.variables.as_slice().len() {
-        let variable = i as u16 + 1;
-        if table.has_option(variable) {
-            count = list_choice(table, holds, variable, index, out, count);
-            index += 1;
-        }
+    for (index, variable) in options.enumerate() {
+        count = list_choice(table, holds, variable, index, out, count);
     }
     count
 }
@@ -69,7 +65,7 @@ pub(crate) fn next_option<K: Figure, O: BranchingOrder<K>>(
     levels: usize,
     part: &[K],
 ) -> Option<u16>
-    requires { length part.now ≡ 2 * length (options (roles table.now)) + 1 }
+    requires { length part.now ≡ stride (roles table.now) }
     ensures { result ≡ as_option (gate levels (named (O.picks order.now) (told K.ring part.now (choices_of (roles table.now) (circuit table.now) holds.now.entries)))) }
 {
     if levels == 0 {

@@ -15,6 +15,7 @@ use passes::holds::Holds;
 use passes::sheet::Sheet;
 use table::table::Table;
 
+// Clause `same`: a type's invariant cannot speak of before and after, and a name would say no more.
 /// Answers one call.
 pub fn ask<K: Figure, O: BranchingOrder<K>>(
     table: &Table,

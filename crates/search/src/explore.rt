@@ -12,6 +12,7 @@ use crate::plan::Plan;
 use crate::trail::Branch;
 use kinds::figure::Figure;
 use passes::holds::Holds;
+use passes::places::stride;
 use passes::query::Query;
 
 impl<K: Figure> Found<K> {
@@ -42,6 +43,7 @@ fn retreat(holds: &mut Holds, trail: &mut [Branch], depth: usize) -> usize
     ensures trail { trail.new ≡ (back trail.old depth holds.old.entries).1 }
     ensures holds { holds.new.entries ≡ (back trail.old depth holds.old.entries).2 }
 {
+    // By index: it ends at the first that is held on, and writes where it reads.
     for at in (0..depth).rev() {
         let branch = trail[at];
         if branch.on {
@@ -84,7 +86,7 @@ impl<K: Figure, O: BranchingOrder<K>> Plan<'_, K, O> {
         if cut {
             return None;
         }
-        let stride = 2 * self.table.variables.options() + 1;
+        let stride = stride(self.table);
         let base = (self.table.nodes.len() - 1) * stride;
         let next = next_option(
             self.table,

@@ -15,7 +15,7 @@ impl<K: Figure> BranchingOrder<K> for NumberOrder {
 
     ghost names = { λ s. lawful_lowest };
 
-    fn pick(&self, free: &[Choice], part: &[K]) -> u16 {
+    fn pick(&self, free: &[Choice], _part: &[K]) -> u16 {
         free[0].option
     }
 }

@@ -1,6 +1,6 @@
 //! Strongest lean: branch on the free option whose weaker value at the root ranks lowest.
 ghost use Rattle.std.specs.Prelude.{◌≡◌, true, length};
-ghost use Rattle.search.specs.Orders.{StrongestAnswers, strongest, weaker as weaker_of, stronger as stronger_of, leading as leading_of, lean_at, placed, best_placed};
+ghost use Rattle.search.specs.Orders.{StrongestAnswers, strongest, weaker as weaker_of, stronger as stronger_of, lean_at, placed};
 ghost use Rattle.search.specs.OrdersLemmas.{lawful_strongest};
 
 use crate::choice::Choice;
@@ -23,32 +23,16 @@ fn weaker<K: Figure>(part: &[K], choice: Choice) -> K
     lesser(part[choice.place], part[choice.place + 1])
 }
 
-/// The best so far, or `choice` if its weaker value ranks lower.
-fn stronger<K: Figure>(part: &[K], best: Option<Choice>, choice: Choice) -> Choice
-    requires best { best_placed (length part.now) best ≡ true }
+/// Of two choices the first, or the second if its weaker value ranks lower.
+fn stronger<K: Figure>(part: &[K], best: Choice, choice: Choice) -> Choice
+    requires best { placed (length part.now) best ≡ true }
     requires choice { placed (length part.now) choice ≡ true }
     ensures { result ≡ stronger_of K.ring part.now best choice }
 {
-    match best {
-        Some(b) => if weaker(part, b).no_higher(weaker(part, choice)) {
-            b
-        } else {
-            choice
-        },
-        None => choice,
-    }
-}
-
-/// The best of the mentioned choices, with one choice more.
-fn leading<K: Figure>(part: &[K], best: Option<Choice>, choice: Choice) -> Option<Choice>
-    requires best { best_placed (length part.now) best ≡ true }
-    requires choice { placed (length part.now) choice ≡ true }
-    ensures { result ≡ leading_of K.ring part.now best choice }
-{
-    if choice.mentioned {
-        Some(stronger(part, best, choice))
-    } else {
+    if weaker(part, best).no_higher(weaker(part, choice)) {
         best
+    } else {
+        choice
     }
 }
 
@@ -58,11 +42,12 @@ impl<K: Figure> BranchingOrder<K> for StrongestLean {
     ghost names = { λ s. lawful_strongest K.ring };
 
     fn pick(&self, free: &[Choice], part: &[K]) -> u16 {
-        let mut best = None;
-        for c in free {
-            best = leading(part, best, *c);
-        }
-        best.unwrap_or(free[0]).option
+        free.iter()
+            .copied()
+            .filter(|choice| choice.mentioned)
+            .reduce(|best, choice| stronger(part, best, choice))
+            .unwrap_or(free[0])
+            .option
     }
 }
 

@@ -9,7 +9,7 @@ ghost use Rattle.search.specs.Calls.{entries_with, hold_refusals, release_refusa
 ghost use Rattle.search.specs.Study.{answered, changed_to};
 
 use crate::fault::Fault;
-use crate::tests::{
+use crate::requirements::{
     require_chance, require_free, require_held, require_no_stray, require_option, require_sheet,
 };
 use kinds::figure::Figure;
@@ -41,6 +41,7 @@ pub fn release(table: &Table, holds: &mut Holds, variable: u16) -> Result<(), Fa
     Ok(())
 }
 
+// Clause `same`: a type's invariant cannot speak of before and after, and a name would say no more.
 /// Writes a chance's two weights.
 pub fn weigh<K: Figure>(
     table: &Table,

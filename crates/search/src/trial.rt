@@ -9,15 +9,17 @@ ghost use Rattle.search.specs.Study.{answered};
 
 use crate::fault::Fault;
 use crate::guard::Trial;
-use crate::tests::{
-    pair_places, require_free, require_no_stray, require_option, require_sheet, require_work,
+use crate::requirements::{
+    require_free, require_no_stray, require_option, require_sheet, require_work,
 };
 use kinds::figure::Figure;
 use passes::holds::Holds;
+use passes::places::pair_places;
 use passes::query::Query;
 use passes::sheet::Sheet;
 use table::table::Table;
 
+// Clause `known`: callers give a `u16`; a type for it would be made and opened at each call.
 /// The bound with a variable held on (or off); the holds are afterwards as before.
 fn bound_if_held<K: Figure>(
     table: &Table,

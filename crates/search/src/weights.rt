@@ -6,7 +6,7 @@ ghost use Rattle.table.specs.Whole.{roles};
 ghost use Rattle.search.specs.Weights.{field_at, is_weight_line, weight_field, form_says, line_says, weights_say};
 
 use crate::fault::Fault;
-use crate::tests::{require_chance, require_sheet};
+use crate::requirements::{require_chance, require_sheet};
 use crate::weighing::Weighing;
 use kinds::figure::Figure;
 use kinds::written::Written;
@@ -61,6 +61,7 @@ fn write_ones<K: Figure>(figures: &mut [K], count: usize)
     figures[..count].fill_with(|| K::one());
 }
 
+// Clause `same`: a type's invariant cannot speak of before and after, and a name would say no more.
 /// Reads a weight text: writes one to every variable's two places and then the weights of each
 /// line to its chance's, or answers the first refusal that fits. A text refused at a line leaves
 /// the ones and the lines before it; a sheet that is too short is left as it is.
@@ -76,6 +77,7 @@ pub fn read_weights<K: Written>(
     require_sheet(table, sheet.figures.len())?;
     let count = 2 * table.variables.as_slice().len();
     write_ones(sheet.figures, count);
+    // A loop: each line begins where the one before it ends.
     let mut line = 1;
     let mut rest = text;
     while !rest.is_empty() {

@@ -1,5 +1,5 @@
 //! The calls on plant K, with answers worked out by hand.
-use crate::steps::{MARK, Step, run_steps};
+use crate::steps::{MARK, Step, Study, table_of};
 use kinds::value::Peak;
 use kinds::written::Written;
 use passes::holds::Holds;
@@ -69,30 +69,15 @@ fn check_calls<K: Written + Clone>(
     let by_number = format!(in heap; "number order: {case}")?;
     let by_lean = format!(in heap; "strongest lean: {case}")?;
     let plant = Stores::read(PLANT, heap)?;
-    let mut sheet = vec![in heap; mark; 4]?;
-    let mut work = vec![in heap; mark; 21]?;
-    run_steps(
-        rt,
-        &plant,
-        &NumberOrder,
-        &mut Holds::new(),
-        sheet.as_mut_slice(),
-        work.as_mut_slice(),
-        steps,
-        heap,
-        &by_number,
-    )?;
-    run_steps(
-        rt,
-        &plant,
-        &StrongestLean,
-        &mut Holds::new(),
-        sheet.as_mut_slice(),
-        work.as_mut_slice(),
-        steps,
-        heap,
-        &by_lean,
-    )
+    let mut study = Study {
+        table: table_of(&plant, &case)?,
+        holds: Holds::new(),
+        figures: vec![in heap; mark; 4]?,
+        work: vec![in heap; mark; 21]?,
+    };
+    study.run(rt, &NumberOrder, steps, heap, &by_number)?;
+    study.holds = Holds::new();
+    study.run(rt, &StrongestLean, steps, heap, &by_lean)
 }
 
 #[test]

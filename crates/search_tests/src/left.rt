@@ -1,6 +1,6 @@
 //! What the calls leave in the work table.
 use crate::shown::show_figures;
-use crate::steps::{Held, MARK, Step, holds_of, run_steps};
+use crate::steps::{Held, MARK, Step, Study, holds_of, table_of};
 use kinds::value::Tally;
 use kinds::written::Written;
 use plants::files::PLANT;
@@ -41,20 +41,14 @@ fn work_after(
     step: Step,
     heap: Global,
 ) -> Result<Vec<Tally>, Fail> {
-    let mut sheet = SHEET;
-    let mut work = vec![in heap; MARK; 25]?;
-    run_steps(
-        rt,
-        plant,
-        &NumberOrder,
-        &mut holds_of(held),
-        &mut sheet,
-        work.as_mut_slice(),
-        &[step],
-        heap,
-        &"25 places",
-    )?;
-    Ok(work)
+    let mut study = Study {
+        table: table_of(plant, &"25 places")?,
+        holds: holds_of(held),
+        figures: SHEET.to_vec(heap)?,
+        work: vec![in heap; MARK; 25]?,
+    };
+    study.run(rt, &NumberOrder, &[step], heap, &"25 places")?;
+    Ok(study.work)
 }
 
 #[test]

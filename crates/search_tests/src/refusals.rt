@@ -1,5 +1,5 @@
 //! Refused calls on plant K.
-use crate::steps::{Held, MARK, holds_of, run_steps};
+use crate::steps::{Held, MARK, Study, holds_of, table_of};
 use kinds::written::Written;
 use plants::files::PLANT;
 use plants::stores::Stores;
@@ -164,19 +164,13 @@ fn check_case(
 ) -> Result<(), Fail> {
     let (figures, places, held, steps) = entry;
     for step in steps {
-        let mut sheet = vec![in heap; MARK; figures]?;
-        let mut work = vec![in heap; MARK; places]?;
-        run_steps(
-            rt,
-            plant,
-            &NumberOrder,
-            &mut holds_of(held),
-            sheet.as_mut_slice(),
-            work.as_mut_slice(),
-            &[*step],
-            heap,
-            case,
-        )?;
+        let mut study = Study {
+            table: table_of(plant, case)?,
+            holds: holds_of(held),
+            figures: vec![in heap; MARK; figures]?,
+            work: vec![in heap; MARK; places]?,
+        };
+        study.run(rt, &NumberOrder, &[*step], heap, case)?;
     }
     Ok(())
 }

@@ -1,6 +1,6 @@
 //! Select against all selections, one by one.
 use crate::shown::show_holds;
-use crate::steps::{Step, run_steps, table_of};
+use crate::steps::{Step, Study, table_of};
 use kinds::figure::Figure;
 use kinds::value::{Peak, Tally};
 use kinds::written::Written;
@@ -11,6 +11,7 @@ use plants::stores::Stores;
 use search::asking::{bound, figure, select};
 use search::found::Found;
 use search::number_order::NumberOrder;
+use search::order::BranchingOrder;
 use search::strongest_lean::StrongestLean;
 use std::alloc::Global;
 use std::fmt::Display;
@@ -131,6 +132,23 @@ impl<K: Written> Plant<'_, K> {
         self.open(&branch, levels - 1, on)
     }
 
+    // What select finds by an order is the best that the holds allow.
+    fn found_by<O: BranchingOrder<K>>(
+        &mut self,
+        rt: &impl Abort,
+        order: &O,
+        held: &Holds,
+        selections: &[Selected<K>],
+        heap: Global,
+        case: &impl Display,
+    ) -> Result<Found<K>, Fail> {
+        let Ok(found) = select(&self.table, held, &self.sheet, self.work, order) else {
+            return Err(Fail::new(format_args!("select is refused: {case}")));
+        };
+        check_found(rt, found, held, selections, heap, case)?;
+        Ok(found)
+    }
+
     // Select by both orders.
     fn check_holds(
         &mut self,
@@ -140,21 +158,9 @@ impl<K: Written> Plant<'_, K> {
         heap: Global,
         case: &impl Display,
     ) -> Result<(), Fail> {
-        let Ok(lean) = select(&self.table, held, &self.sheet, self.work, &StrongestLean) else {
-            return Err(Fail::new(format_args!("select is refused: {case}")));
-        };
-        check_found(
-            rt,
-            lean,
-            held,
-            selections,
-            heap,
-            &format_args!("strongest lean: {case}"),
-        )?;
-        let Ok(found) = select(&self.table, held, &self.sheet, self.work, &NumberOrder) else {
-            return Err(Fail::new(format_args!("select is refused: {case}")));
-        };
-        check_found(rt, found, held, selections, heap, case)?;
+        let lean = format_args!("strongest lean: {case}");
+        self.found_by(rt, &StrongestLean, held, selections, heap, &lean)?;
+        let found = self.found_by(rt, &NumberOrder, held, selections, heap, case)?;
         let start = Walk {
             best: K::zero(),
             openings: 0,
@@ -282,28 +288,13 @@ fn orders(rt: HostRuntime) -> Result<(), Fail> {
     let heap = rt.alloc();
     let text = file(BLOCK_ROLES, BLOCKS, heap)?;
     let stores = Stores::read(text.as_str(), heap)?;
-    let mut sheet = sheet_of::<Tally>(TALLIES, heap)?;
-    let mut work = vec![in heap; Tally { count: 0 }; 297]?;
-    run_steps(
-        &rt,
-        &stores,
-        &NumberOrder,
-        &mut Holds::new(),
-        sheet.as_mut_slice(),
-        work.as_mut_slice(),
-        BY_NUMBER,
-        heap,
-        &"number order",
-    )?;
-    run_steps(
-        &rt,
-        &stores,
-        &StrongestLean,
-        &mut Holds::new(),
-        sheet.as_mut_slice(),
-        work.as_mut_slice(),
-        BY_LEAN,
-        heap,
-        &"strongest lean",
-    )
+    let mut study = Study {
+        table: table_of(&stores, &"orders")?,
+        holds: Holds::new(),
+        figures: sheet_of::<Tally>(TALLIES, heap)?,
+        work: vec![in heap; Tally { count: 0 }; 297]?,
+    };
+    study.run(&rt, &NumberOrder, BY_NUMBER, heap, &"number order")?;
+    study.holds = Holds::new();
+    study.run(&rt, &StrongestLean, BY_LEAN, heap, &"strongest lean")
 }

@@ -33,14 +33,11 @@ pub(crate) fn holds_of(held: &[Held]) -> Holds {
     holds
 }
 
-/// The table of these parts.
+/// The table of these parts, which the check accepts.
 pub(crate) fn table_of<'a>(stores: &'a Stores, case: &impl Display) -> Result<Table<'a>, Fail> {
-    let nodes = stores.nodes.as_slice();
-    let children = stores.children.as_slice();
-    let Ok(table) = Table::check(nodes, children, stores.variables) else {
-        return Err(Fail::new(format_args!("refused: {case}")));
-    };
-    Ok(table)
+    stores
+        .table()
+        .map_err(|_| Fail::new(format_args!("refused: {case}")))
 }
 
 // What the calls of a study may change, as texts.
@@ -51,19 +48,6 @@ struct Shown {
     work: String,
 }
 
-fn show_study<K: Written>(
-    holds: &Holds,
-    sheet: &Sheet<K>,
-    work: &[K],
-    heap: Global,
-) -> Result<Shown, AllocError> {
-    Ok(Shown {
-        holds: show_holds(holds, heap)?,
-        sheet: show_figures(sheet.figures, heap)?,
-        work: show_figures(work, heap)?,
-    })
-}
-
 fn may_hold<K: Written>(call: Call<K>) -> bool {
     matches!(call, Call::Hold { .. } | Call::Release { .. })
 }
@@ -72,72 +56,89 @@ fn may_weigh<K: Written>(call: Call<K>) -> bool {
     matches!(call, Call::Weigh { .. })
 }
 
-// Answers one call: it changes only what it may, and nothing if it is refused.
-// Its parameters are no struct: the borrow checker covers no call that lends several fields of one.
-fn run_step<K: Written, O: BranchingOrder<K>>(
-    rt: &impl Abort,
-    table: &Table,
-    order: &O,
-    holds: &mut Holds,
-    sheet: &mut Sheet<K>,
-    work: &mut [K],
-    number: usize,
-    step: Step,
-    heap: Global,
-    case: &impl Display,
-) -> Result<(), Fail> {
-    let (spoken, due) = step;
-    let Some(call) = call_of(spoken) else {
-        return Err(Fail::new(format_args!("no call: call {number}: {spoken}: {case}")));
-    };
-    let before = show_study(holds, sheet, work, heap)?;
-    let answer = ask(table, order, holds, sheet, work, call);
-    let after = show_study(holds, sheet, work, heap)?;
-    let shown = show_answer(answer, heap)?;
-    assert_eq!(rt; shown.as_str(), due, "call {number}: {spoken}: {case}");
-    let refused = answer.is_err();
-    if refused || !may_hold(call) {
-        assert_eq!(rt;
-            after.holds.as_str(),
-            before.holds.as_str(),
-            "holds: call {number}: {spoken}: {case}"
-        );
-    }
-    if refused || !may_weigh(call) {
-        assert_eq!(rt;
-            after.sheet.as_str(),
-            before.sheet.as_str(),
-            "sheet: call {number}: {spoken}: {case}"
-        );
-    }
-    if refused || may_hold(call) || may_weigh(call) {
-        assert_eq!(rt;
-            after.work.as_str(),
-            before.work.as_str(),
-            "work table: call {number}: {spoken}: {case}"
-        );
-    }
-    Ok(())
+/// A study: its table, and what its calls may change.
+#[derive(Drop)]
+pub(crate) struct Study<'a, K> {
+    pub table: Table<'a>,
+    pub holds: Holds,
+    pub figures: Vec<K>,
+    pub work: Vec<K>,
 }
 
-/// Answers the calls on the table of these parts.
-pub(crate) fn run_steps<K: Written, O: BranchingOrder<K>>(
-    rt: &impl Abort,
-    stores: &Stores,
-    order: &O,
-    holds: &mut Holds,
-    figures: &mut [K],
-    work: &mut [K],
-    steps: &[Step],
-    heap: Global,
-    case: &impl Display,
-) -> Result<(), Fail> {
-    let table = table_of(stores, case)?;
-    let mut sheet = Sheet { figures };
-    for (i, step) in steps.iter().enumerate() {
-        run_step(
-            rt, &table, order, holds, &mut sheet, work, i, *step, heap, case,
-        )?;
+impl<K: Written> Study<'_, K> {
+    fn show(&self, heap: Global) -> Result<Shown, AllocError> {
+        Ok(Shown {
+            holds: show_holds(&self.holds, heap)?,
+            sheet: show_figures(self.figures.as_slice(), heap)?,
+            work: show_figures(self.work.as_slice(), heap)?,
+        })
     }
-    Ok(())
+
+    // Answers one call: it changes only what it may, and nothing if it is refused.
+    fn run_step<O: BranchingOrder<K>>(
+        &mut self,
+        rt: &impl Abort,
+        order: &O,
+        number: usize,
+        step: Step,
+        heap: Global,
+        case: &impl Display,
+    ) -> Result<(), Fail> {
+        let (spoken, due) = step;
+        let Some(call) = call_of(spoken) else {
+            return Err(Fail::new(format_args!("no call: call {number}: {spoken}: {case}")));
+        };
+        let before = self.show(heap)?;
+        let Study {
+            table,
+            holds,
+            figures,
+            work,
+        } = self;
+        let mut sheet = Sheet {
+            figures: figures.as_mut_slice(),
+        };
+        let answer = ask(table, order, holds, &mut sheet, work.as_mut_slice(), call);
+        let after = self.show(heap)?;
+        let shown = show_answer(answer, heap)?;
+        assert_eq!(rt; shown.as_str(), due, "call {number}: {spoken}: {case}");
+        let refused = answer.is_err();
+        if refused || !may_hold(call) {
+            assert_eq!(rt;
+                after.holds.as_str(),
+                before.holds.as_str(),
+                "holds: call {number}: {spoken}: {case}"
+            );
+        }
+        if refused || !may_weigh(call) {
+            assert_eq!(rt;
+                after.sheet.as_str(),
+                before.sheet.as_str(),
+                "sheet: call {number}: {spoken}: {case}"
+            );
+        }
+        if refused || may_hold(call) || may_weigh(call) {
+            assert_eq!(rt;
+                after.work.as_str(),
+                before.work.as_str(),
+                "work table: call {number}: {spoken}: {case}"
+            );
+        }
+        Ok(())
+    }
+
+    /// Answers the calls by an order.
+    pub(crate) fn run<O: BranchingOrder<K>>(
+        &mut self,
+        rt: &impl Abort,
+        order: &O,
+        steps: &[Step],
+        heap: Global,
+        case: &impl Display,
+    ) -> Result<(), Fail> {
+        for (i, step) in steps.iter().enumerate() {
+            self.run_step(rt, order, i, *step, heap, case)?;
+        }
+        Ok(())
+    }
 }

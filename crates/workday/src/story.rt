@@ -7,6 +7,7 @@ use crate::words::{Answer, AnswerWords, CallWords, RefusalWords};
 use kinds::value::Tally;
 use parts::stores::{Parts, Room};
 use passes::holds::Entry;
+use passes::places::pair_places;
 use passes::sheet::Sheet;
 use search::call::{Call, Reply};
 use search::day::work_day;
@@ -205,7 +206,7 @@ impl<'a> Study<'a> {
     ) -> Result<Vec<Answer>, AllocError> {
         let mut copy = self.figures.to_vec(self.heap)?;
         let mut sheet = Sheet { figures: &mut copy };
-        let mut room = vec![in self.heap; Tally { count: 0 }; self.work_room()]?;
+        let mut room = vec![in self.heap; Tally { count: 0 }; pair_places(self.table)]?;
         let mut answers = vec![in self.heap; Ok(Reply::Done); calls.len()]?;
         let _ = work_day(
             self.table,
@@ -216,11 +217,6 @@ impl<'a> Study<'a> {
             &mut answers,
         );
         Ok(answers)
-    }
-
-    /// How many figures the work table needs.
-    fn work_room(&self) -> usize {
-        self.table.nodes.len() * (2 * self.table.variables.options() + 1)
     }
 
     /// A day's calls and their answers, line by line.

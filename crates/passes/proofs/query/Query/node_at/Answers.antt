@@ -14,4 +14,4 @@ pub node-requires-clause-readable : goal.node-requires-clause-readable
 node-requires-clause-readable g c =
     let t = c.args.self.now.table.now in
     let n = get_or t.nodes.now c.args.number blank in
-    node_readable t c.args.number c.requires.node n (get_or_default t.nodes.now c.args.number blank n c.requires.node) c.args.parts.now.stride _ (sym c.requires.before)
+    node_readable t c.args.number c.requires.node n (get_or_default t.nodes.now c.args.number blank n c.requires.node) c.args.values.now.stride _ (sym c.requires.before)

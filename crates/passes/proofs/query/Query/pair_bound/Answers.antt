@@ -1,32 +1,25 @@
-use Rattle.std.proofs.Common.{◌≡◌, ◌+◌, ◌*◌, true, length, sym, ap, ◌∙◌, subst, ap₂, arith}
+use Rattle.std.proofs.Common.{◌≡◌, ◌*◌, true, length, sym, ◌∙◌, subst, ap₂, arith}
 use Rattle.std.proofs.lemmas.Bool.{le-leb}
 use Rattle.table.proofs.Asked.{proved_sound}
 use Rattle.table.proofs.Upward.{upward_length}
 use Rattle.table.specs.Circuit.{mentions}
 use Rattle.table.specs.Count.{figure}
-use Rattle.table.specs.Sound.{options, chances}
+use Rattle.table.specs.Sound.{chances}
 use Rattle.table.specs.Whole.{circuit, roles}
 use Rattle.passes.specs.Holding.{selected}
 use Rattle.passes.specs.Passes.{pair, plain_bound}
+use Rattle.passes.specs.Places.{pair_places}
 use Rattle.passes.proofs.Above.{covers}
 use Rattle.passes.proofs.Below.{tightens, meets, plain_where_held}
-use Rattle.passes.proofs.Roots.{some_node, node_count, options_many, last_part, root_part_in}
-use Rattle.passes.proofs.query.Query.pair_bound.Given as given
+use Rattle.passes.proofs.Roots.{some_node, node_count, last_part, root_part_in}
 use Rattle.passes.proofs.query.Query.pair_bound.Goals as goal
-use Rattle.passes.proofs.query.Query.pair_bound.Goals.{After-options}
-
--- the places of a part
-wide : (g : given.Over) (c : After-options g) → 2 * c.options.result + 1 ≡ 2 * length (options (roles c.args.self.now.table.now)) + 1
-wide g c = ap (λ n. 2 * n + 1) (c.options.ensures ∙ sym (options_many c.args.self.now.table.now))
 
 pub value-requires : goal.value-requires
 value-requires g c =
     let t = c.args.self.now.table.now in
-    let stride = 2 * c.options.result + 1 in
     let n = length t.nodes.now in
-    let same : n * stride ≡ length (circuit t) * (2 * length (options (roles t)) + 1) =
-    ap₂ (λ a b. a * b) (sym (node_count t)) (wide g (goal.at.value-requires g c).After-options) in
-    le-leb _ _ (omega (arith, last_part n stride (some_node t), same, c.requires.room, c.pair_pass.auto.work))
+    let same : n * c.stride.result ≡ pair_places (roles t) (circuit t) = ap₂ (λ a b. a * b) (sym (node_count t)) c.stride.ensures in
+    le-leb _ _ (omega (arith, last_part n c.stride.result (some_node t), same, c.requires.room, c.pair_pass.auto.work))
 
 pub returns : goal.returns
 returns g c =
@@ -40,7 +33,7 @@ returns g c =
     let h = q.holds.now.entries in
     let good = proved_sound t in
     let answer = c.value.ensures
-    ∙ root_part_in R rs sheet (2 * c.options.result + 1) (wide g (goal.at.returns g c).After-options) _ _ _ _ c.pair_pass.ensures
+    ∙ root_part_in R rs sheet c.stride.result c.stride.ensures _ _ _ _ c.pair_pass.ensures
     (upward_length (pair R rs sheet (mentions ss) h) ss ∙ node_count t) (some_node t) in
     record {
       answer = answer;

@@ -12,4 +12,4 @@ pub record Left {F : Type 0} (R : Semiring F) (value : ℕ → F) (reads : ℕ �
 
 abbrev pub invariant-loop-child : goal.invariant-loop-child
 invariant-loop-child g l =
-    Left g.K.Figure.ring (g.W.Rule.child_in l.rule l.self l.parts.stride l.parts.places.now) (inside (length l.parts.places.now) l.parts.stride) l.children l.all l.child-index
+    Left g.K.Figure.ring (g.W.Rule.child_in l.rule l.self l.values.stride l.values.places.now) (inside (length l.values.places.now) l.values.stride) l.children l.all l.child-index

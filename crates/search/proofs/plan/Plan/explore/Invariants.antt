@@ -2,10 +2,10 @@ use Rattle.std.proofs.Common.{◌≡◌, ℕ, ◌-◌, List, drop}
 use Rattle.kinds.specs.Semiring.{Semiring}
 use Rattle.table.specs.Whole.{circuit, roles}
 use Rattle.passes.specs.Holding.{Entries}
+use Rattle.passes.specs.Places.{pair_places}
 use Rattle.search.specs.declared.found.Found.{Found}
 use Rattle.search.specs.declared.trail.Branch.{Branch}
 use Rattle.search.specs.Select.{Branching, explored, of_table, start}
-use Rattle.search.specs.Study.{pair_places}
 use Rattle.search.proofs.Walks.{Walking}
 use Rattle.search.proofs.plan.Plan.explore.Given as goal
 

@@ -1,16 +1,16 @@
 use Rattle.std.proofs.Common.{◌≡◌, ℕ, ◌+◌, ◌-◌, ◌*◌, ◌<◌, ◌≤◌, Bool, not, length, drop, sym, ap, ◌∙◌, ap₂, arith, rules}
 use Rattle.std.proofs.lemmas.List.{length-take-le, length-drop}
-use Rattle.table.specs.Sound.{options}
 use Rattle.table.specs.Whole.{circuit, roles}
 use Rattle.passes.specs.Holding.{selected}
-use Rattle.passes.proofs.Roots.{some_node, node_count, options_many, last_part}
+use Rattle.passes.specs.Places.{pair_places}
+use Rattle.passes.proofs.Roots.{some_node, node_count, last_part}
 use Rattle.search.specs.Select.{Branching, best_figure, opened, offered, of_table, named}
 use Rattle.search.specs.Walk.{as_option, gate}
 use Rattle.search.proofs.Leaning.{parts_kept, counts_kept, told_leans}
 use Rattle.search.proofs.Turns.{turn_cut, turn_option, turn_leaf, turn_fork}
 use Rattle.search.proofs.plan.Plan.open.Given as given
 use Rattle.search.proofs.plan.Plan.open.Goals as goal
-use Rattle.search.proofs.plan.Plan.open.Goals.{After-no_higher-cut, After-options, After-next_option-next, at-After-next_option-next}
+use Rattle.search.proofs.plan.Plan.open.Goals.{After-no_higher-cut, After-stride-stride, After-next_option-next, at-After-next_option-next}
 
 -- what the holds are opened by
 abbrev its : (g : given.Over) (c : After-no_higher-cut g) → Branching g.row.K.Denot
@@ -37,46 +37,45 @@ returns-then-cut g c =
       work = parts_kept R (roles t) (circuit t) c.args.self.now.sheet.now h _ _ c.pair_bound-bound.ensures.work;
     }
 
--- the places of a part, and where the root's part ends
-wide : (g : given.Over) (c : After-options g) → 2 * c.options.result + 1 ≡ 2 * length (options (roles c.args.self.now.table.now)) + 1
-wide g c = ap (λ n. 2 * n + 1) (c.options.ensures ∙ sym (options_many c.args.self.now.table.now))
-
-root_end : (g : given.Over) (c : After-options g) → (length c.args.self.now.table.now.nodes.now - 1) * (2 * c.options.result + 1) + (2 * c.options.result + 1) ≤ length c.pair_bound-bound.new.work
+-- where the root's part ends
+root_end : (g : given.Over) (c : After-stride-stride g) → (length c.args.self.now.table.now.nodes.now - 1) * c.stride-stride.result + c.stride-stride.result ≤ length c.pair_bound-bound.new.work
 root_end g c =
     let t = c.args.self.now.table.now in
     let n = length t.nodes.now in
-    let stride = 2 * c.options.result + 1 in
-    let same : n * stride ≡ length (circuit t) * (2 * length (options (roles t)) + 1) = ap₂ (λ a b. a * b) (sym (node_count t)) (wide g c) in
-    omega (arith, last_part n stride (some_node t), same, c.requires.room, c.pair_bound-bound.auto.work)
+    let same : n * c.stride-stride.result ≡ pair_places (roles t) (circuit t) = ap₂ (λ a b. a * b) (sym (node_count t)) c.stride-stride.ensures in
+    omega (arith, last_part n c.stride-stride.result (some_node t), same, c.requires.room, c.pair_bound-bound.auto.work)
+
+pub overflow_add-base : goal.overflow_add-base
+overflow_add-base g c = let h = root_end g (goal.at.overflow_add-base g c).After-stride-stride in search rules
 
 pub offset_bounds-work-base : goal.offset_bounds-work-base
 offset_bounds-work-base g c =
-    let base : ℕ = (length c.args.self.now.table.now.nodes.now - 1) * (2 * c.options.result + 1) in
-    let h : base < length c.args.work.now = omega (arith, root_end g (goal.at.offset_bounds-work-base g c).After-options, c.pair_bound-bound.auto.work) in
+    let base : ℕ = (length c.args.self.now.table.now.nodes.now - 1) * c.stride-stride.result in
+    let h : base < length c.args.work.now = omega (arith, root_end g (goal.at.offset_bounds-work-base g c).After-stride-stride, c.pair_bound-bound.auto.work) in
     search rules
 
 pub slice_bounds-next_option-end : goal.slice_bounds-next_option-end
-slice_bounds-next_option-end g c = let h = root_end g (goal.at.slice_bounds-next_option-end g c).After-options in search rules
+slice_bounds-next_option-end g c = let h = root_end g (goal.at.slice_bounds-next_option-end g c).After-stride-stride in search rules
 
 pub next_option-next-requires : goal.next_option-next-requires
 next_option-next-requires g c =
-    let a = (goal.at.next_option-next-requires g c).After-options in
-    let stride : ℕ = 2 * c.options.result + 1 in
+    let a = (goal.at.next_option-next-requires g c).After-stride-stride in
+    let stride : ℕ = c.stride-stride.result in
     let base : ℕ = (length c.args.self.now.table.now.nodes.now - 1) * stride in
     let work = c.pair_bound-bound.new.work in
     let h = root_end g a in
-    length-take-le (base + stride - base) (drop base work) (omega (arith, length-drop base work)) ∙ (let e : base + stride - base ≡ stride = omega arith in e) ∙ wide g a
+    length-take-le (base + stride - base) (drop base work) (omega (arith, length-drop base work)) ∙ (let e : base + stride - base ≡ stride = omega arith in e) ∙ c.stride-stride.ensures
 
 -- the option to branch on
 next_is : (g : given.Over) (c : After-next_option-next g) → c.next_option-next.result ≡ as_option (gate c.args.levels ((its g (at-After-next_option-next g c).After-no_higher-cut).next c.args.holds.now.entries))
 next_is g c =
     let t = c.args.self.now.table.now in
-    let stride = 2 * c.options.result + 1 in
+    let stride = c.stride-stride.result in
     let pick = g.O.BranchingOrder.picks c.args.self.now.order.now in
     c.next_option-next.ensures
     ∙ ap (λ ls. as_option (gate c.args.levels (named pick ls)))
     (told_leans g.K.Figure.ring pick (roles t) (circuit t) c.args.self.now.sheet.now c.args.holds.now.entries stride ((length t.nodes.now - 1) * stride) _ _
-    (wide g (at-After-next_option-next g c).After-options) (omega (arith, node_count t, some_node t)) (ap (λ n. (n - 1) * stride) (sym (node_count t))) c.pair_bound-bound.ensures.work)
+    c.stride-stride.ensures (omega (arith, node_count t, some_node t)) (ap (λ n. (n - 1) * stride) (sym (node_count t))) c.pair_bound-bound.ensures.work)
 
 pub returns-then-is_none : goal.returns-then-is_none
 returns-then-is_none g c =

@@ -1,23 +1,26 @@
-use Rattle.std.proofs.Common.{refl, ap, ◌∙◌}
-use Rattle.search.proofs.Leading.{lowest_told, here_placed, leading_more, leading_over, found_or}
+use Rattle.std.proofs.Common.{length, rules}
+use Rattle.std.specs.List.{filter}
+use Rattle.std.proofs.lemmas.Iterator.{YieldsList-from_slice}
+use Rattle.std.proofs.lemmas.Iterator.Consumers.{YieldsList-at, YieldsList-from_copied, YieldsList-from_filter}
+use Rattle.search.specs.declared.choice.Choice.{Choice}
+use Rattle.search.proofs.Leading.{reduce_callable, reduce_given, strongest_told, filter_placed}
 use Rattle.search.proofs.strongest_lean.StrongestLeanBranchingOrder.pick.Goals as goal
+use borrow.Author.Tests.{tests}
 
-pub leading-best-requires : goal.leading-best-requires
-leading-best-requires g c = record {
-  best = c.loop-c.invariant.best_in;
-  choice = here_placed g.K.Figure.ring c.args.part.now c.args.free.now c.loop-c.best c.loop-c.c-index _ c.loop-c-test.true c.loop-c.invariant;
-}
-
-pub loop-c-preserved : goal.loop-c-preserved
-loop-c-preserved g c =
-    leading_more g.K.Figure.ring c.args.part.now c.args.free.now c.loop-c.best c.loop-c.c-index _ c.leading-best.result
-    c.loop-c-test.true c.leading-best.ensures c.loop-c.invariant
+pub reduce-requires-clause-callable : goal.reduce-requires-clause-callable
+reduce-requires-clause-callable g c =
+    let mentioned = filter (λ (x : Choice). x.mentioned) c.args.free.now in
+    reduce_callable g.K.Figure.ring c.args.part.now _ _ _ (length c.args.part.now) (λ b d p q. search rules) (λ b d r q k. search rules) mentioned
+    (YieldsList-from_filter _ (λ (x : Choice). x.mentioned) (YieldsList-at c.filter.ensures.source (YieldsList-from_copied (YieldsList-at c.copied.ensures.source (YieldsList-from_slice c.args.free.now cc)))) c.filter.ensures.closure (λ x b q k. search (rules, tests)))
+    (filter_placed (length c.args.part.now) c.args.free.now c.requires.placed)
 
 pub returns : goal.returns
 returns g c =
     let R = g.K.Figure.ring in
     let part = c.args.part.now in
     let free = c.args.free.now in
-    ap (λ x. x.option) c.unwrap_or.ensures
-    ∙ found_or R part _ c.loop-c.best _ (lowest_told R part free c.requires.some _)
-    ∙ leading_over R part free c.loop-c.best _ c.loop-c.c-index c.loop-c-test.false refl c.loop-c.invariant
+    let mentioned = filter (λ (x : Choice). x.mentioned) free in
+    let best = reduce_given R part _ _ _ (length part) (λ b d p q. search rules) (λ b d r q k. search rules) mentioned
+    (YieldsList-from_filter _ (λ (x : Choice). x.mentioned) (YieldsList-at c.filter.ensures.source (YieldsList-from_copied (YieldsList-at c.copied.ensures.source (YieldsList-from_slice free cc)))) c.filter.ensures.closure (λ x b q k. search (rules, tests)))
+    c.reduce.result c.reduce.ensures.ran in
+    strongest_told R part free c.requires.some _ c.unwrap_or.result c.reduce.result c.unwrap_or.ensures best

@@ -8,7 +8,7 @@ use Rattle.table.proofs.Asked.{variables_long}
 use Rattle.passes.specs.Holding.{is_free}
 use Rattle.passes.specs.Marks.{entry_at}
 use Rattle.search.proofs.Testing.{any_free}
-use Rattle.search.proofs.tests.has_free.Goals as goal
+use Rattle.search.proofs.requirements.has_free.Goals as goal
 use borrow.Author.Tests.{tests}
 
 pub returns : goal.returns

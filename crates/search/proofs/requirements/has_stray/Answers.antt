@@ -7,7 +7,7 @@ use Rattle.table.specs.Whole.{roles}
 use Rattle.passes.specs.Holding.{is_free}
 use Rattle.passes.specs.declared.holds.Entry.{Entry}
 use Rattle.search.proofs.Testing.{any_variable}
-use Rattle.search.proofs.tests.has_stray.Goals as goal
+use Rattle.search.proofs.requirements.has_stray.Goals as goal
 use borrow.Author.Tests.{tests}
 
 pub returns : goal.returns

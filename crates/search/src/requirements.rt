@@ -1,7 +1,6 @@
 //! What a call needs, by small tests: each answers its refusal if that fits.
 ghost use Rattle.std.specs.Prelude.{◌≡◌, ◌≤◌, length};
 ghost use Rattle.table.specs.Whole.{roles};
-ghost use Rattle.search.specs.Calls.{places};
 ghost use Rattle.search.specs.Study.{passed, short_sheet, stray_hold, no_option, no_chance, held_already, not_held, still_free, short_work};
 
 use crate::fault::Fault;
@@ -57,6 +56,7 @@ pub(crate) fn require_chance(table: &Table, variable: u16) -> Result<(), Fault>
     Ok(())
 }
 
+// This one and the next differ in the entry that they refuse and in the refusal that they answer.
 /// The option given must be free.
 pub(crate) fn require_free(holds: &Holds, variable: u16) -> Result<(), Fault>
     ensures { result ≡ passed (held_already holds.now.entries variable) }
@@ -103,11 +103,4 @@ pub(crate) fn require_work(size: usize, wanted: usize) -> Result<(), Fault>
         return Err(Fault::ShortWork);
     }
     Ok(())
-}
-
-/// How many places of the work table the pair pass writes.
-pub(crate) fn pair_places(table: &Table) -> usize
-    ensures { result ≡ places table.now }
-{
-    table.nodes.len() * (2 * table.variables.options() + 1)
 }
