@@ -83,8 +83,6 @@ fn zeros<K: Figure>(heap: Global, count: usize) -> Result<Vec<K>, AllocError>
 {
     // Not `vec!`: it clones its item, and no law says that the clone of a figure is the figure.
     let mut store = Vec::new(heap);
-    for _ in 0..count {
-        store.push(K::zero())?;
-    }
+    store.resize_with(count, || K::zero())?;
     Ok(store)
 }
