@@ -19,6 +19,14 @@ pub(crate) fn place_of(variable: u16, on: bool) -> usize
     if on { after - 2 } else { after - 1 }
 }
 
+/// A variable's on (or off) weight, from the figures of a sheet.
+pub(crate) fn weight_of<K: Figure>(figures: &[K], variable: u16, on: bool) -> K
+    requires { (0 < variable) × (2 * variable ≤ length figures.now) }
+    ensures { result ≡ weight K.ring figures.now variable on }
+{
+    figures[place_of(variable, on)]
+}
+
 /// A caller's store of figures. Counted from 0, place 2i - 2 is the on weight of variable i, and
 /// place 2i - 1 its off weight.
 #[derive(Drop)]
@@ -42,6 +50,6 @@ impl<K: Figure> Sheet<'_, K> {
         requires { (0 < variable) × (2 * variable ≤ length self.now.figures.now) }
         ensures { result ≡ weight K.ring self.now.figures.now variable on }
     {
-        self.figures[place_of(variable, on)]
+        weight_of(self.figures, variable, on)
     }
 }
