@@ -11,6 +11,7 @@ pub struct Room {
     pub child: u16,
 }
 
+// The counts in `contents` are the file's own, and the lists are cut to them.
 /// The parts of a table: what its file says, its nodes and its child numbers.
 #[derive(Drop)]
 pub struct Parts {

@@ -13,12 +13,14 @@ use table::table::Table;
 use text::record::{Form, Node, Variables};
 use text::refusal::Refusal;
 
-const BLANK: Node = Node {
+/// A node record before it is written.
+pub const BLANK: Node = Node {
     form: Form::And,
     first: 0,
     count: 0,
 };
 
+// Not `parts::stores::Parts`: of what the file says a test needs the variables alone.
 /// The parts of a table.
 #[derive(Drop)]
 pub struct Stores {
@@ -34,10 +36,8 @@ impl Stores {
         ensures names { IfOk result (λ s. list_all named_printable (listed s.variables) ≡ true) }
     {
         let room = Room {
-            nodes: 4096,
-            children: 12288,
             node: BLANK,
-            child: 0,
+            ..Room::largest()
         };
         Stores::read_into(file, &room, heap)
     }
@@ -61,9 +61,10 @@ impl Stores {
             variables: contents.variables,
         })
     }
+
     /// The table of these parts, or why the check refuses them.
     pub fn table(&self) -> Result<Table<'_>, Fault>
-        ensures table { IfOk result (λ t. (t.nodes.now ≡ self.now.nodes.items) × (t.children.now ≡ self.now.children.items) × (check_says self.now.variables self.now.nodes.items self.now.children.items ≡ Ok t.mentions)) }
+        ensures table { IfOk result (λ t. (t.nodes.now ≡ self.now.nodes.items) × (t.children.now ≡ self.now.children.items) × (t.variables ≡ self.now.variables) × (check_says self.now.variables self.now.nodes.items self.now.children.items ≡ Ok t.mentions)) }
         ensures fault { IfErr result (λ f. check_says self.now.variables self.now.nodes.items self.now.children.items ≡ Err f) }
     {
         Table::check(&self.nodes, &self.children, self.variables)

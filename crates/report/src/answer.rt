@@ -7,6 +7,8 @@ ghost use Rattle.table.specs.Nodes.{is_option_role};
 ghost use Rattle.passes.specs.Holding.{selected};
 ghost use Rattle.report.specs.Report.{behind_tabs, names_on, selection_line, report_of};
 
+// Functions, and no `Display`: what they give is known only for names of ASCII. A figure goes through
+// `write`: with `{}` for a figure of any kind the proof did not close.
 use kinds::written::Written;
 use passes::holds::{Entry, Holds};
 use search::found::Found;

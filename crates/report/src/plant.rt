@@ -13,16 +13,13 @@ use kinds::figure::Figure;
 use kinds::written::Written;
 use parts::stores::{Parts, Room};
 use passes::holds::Holds;
-use passes::sheet::Sheet;
+use passes::sheet::{LARGEST_SHEET, Sheet};
 use search::asking::{bound, select};
 use search::order::BranchingOrder;
 use search::weights::read_weights;
 use std::alloc::{AllocError, Global};
 use table::table::Table;
 use text::refusal::RefusalLine;
-
-/// How many figures the sheet has: two for each of 64 variables.
-const SHEET_ROOM: usize = 128;
 
 /// How many figures the work table has.
 const WORK_ROOM: usize = 4096;
@@ -65,7 +62,7 @@ fn table_report<K: Written, O: BranchingOrder<K>>(
 ) -> Result<String, Stop>
     ensures { Says (PlainNames (listed table.now.variables)) (weighed K.ring K.text (O.picks order.now) K.reading work_room table.now.variables (circuit table.now) (replicate sheet_room K.ring.zero) weights.now) result }
 {
-    let mut figures = zeros::<K>(heap, SHEET_ROOM)?;
+    let mut figures = zeros::<K>(heap, LARGEST_SHEET)?;
     let mut work = zeros::<K>(heap, WORK_ROOM)?;
     let mut sheet = Sheet {
         figures: &mut figures,
@@ -83,8 +80,6 @@ fn zeros<K: Figure>(heap: Global, count: usize) -> Result<Vec<K>, AllocError>
 {
     // Not `vec!`: it clones its item, and no law says that the clone of a figure is the figure.
     let mut store = Vec::new(heap);
-    for _ in 0..count {
-        store.push(K::zero())?;
-    }
+    store.resize_with(count, || K::zero())?;
     Ok(store)
 }

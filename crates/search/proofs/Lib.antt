@@ -14,4 +14,4 @@ pub mod Naming
 pub mod Openings
 pub mod Retreats
 pub mod Walks
-mod Weighings
+pub mod Weighings

@@ -19,6 +19,8 @@ pub(crate) fn is_known(variable: u16, count: usize) -> bool
     variable > 0 && variable as usize <= count
 }
 
+// That a variable is one of 64 stands here and in two functions more: node records give plain numbers,
+// and a type for it would be made and opened at each use.
 /// The set of one variable.
 pub(crate) fn bit_of(variable: u16) -> u64
     requires { (0 < variable) × (variable ≤ 64) }
@@ -57,6 +59,7 @@ pub(crate) fn all_apart(children: &[u16], before: &[NodeSets]) -> bool
     requires { list_all (under (length before.now)) children.now ≡ true }
     ensures { result ≡ apart_masks 0 before.now children.now }
 {
+    // A loop, and no `all`: its test would have to change what was seen.
     let mut seen = 0;
     for c in children {
         let set = before[*c as usize].mentions;
@@ -88,6 +91,7 @@ impl NodeSets {
         requires within { length before.now ≤ length nodes.now }
         ensures { result ≡ with_children nothing nodes.now before.now children.now }
     {
+        // A loop: the closure of a fold can't be told that each child may be read.
         let mut sets = NodeSets::default();
         for c in children {
             let place = *c as usize;

@@ -51,6 +51,7 @@ pub(crate) fn check_file(
     Ok(())
 }
 
+// Parts one by one: records that no reader wrote are in no `Stores`.
 /// The check of these parts answers this.
 pub(crate) fn check_answer(
     rt: &impl Abort,

@@ -7,7 +7,8 @@ use crate::record::{Header, Node, Variables};
 /// What has been read: the header, the variables, how many node records and child numbers the
 /// stores hold, and the number and the place of the line that is due. Before the first line all
 /// counts of the header are 0.
-// No `Option` around the header: each later line would have to open it.
+// No `Option` around the header: each later line would have to open it. Stores with counts: the engine
+// has no heap.
 #[derive(Drop)]
 pub struct Progress<'n, 'c> {
     pub header: Header,

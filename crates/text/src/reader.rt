@@ -67,7 +67,8 @@ impl<'n, 'c> Progress<'n, 'c> {
     }
 
     // That the line which is due ends within 65536 bytes is a fact about it and the place: a struct of
-    // both would be made for each line.
+    // both would be made for each line. Each of the three ends in the same lines: a function for them
+    // would have to say of every other field that it stays.
     /// The header line.
     fn take_header(&mut self, line: &[u8]) -> Result<(), Reason>
         requires first { self.old.line ≡ 1 }

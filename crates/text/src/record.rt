@@ -11,6 +11,7 @@ pub enum Form {
     False,
 }
 
+// Numbers in a store, and no boxes or lists: the engine has no heap.
 /// A node of the circuit. Its children are the `count` numbers of the child store from place
 /// `first` on; of a fork the on branch comes first.
 #[derive(Clone, Copy, Debug, PartialEq, Eq)]
