@@ -120,15 +120,8 @@ impl Circuit<'_> {
             }
             &Node::Fork { variable, on, off } => {
                 self.known(variable)?;
-                let decides = self.has(on, Literal { variable, on: true })
-                    && self.has(
-                        off,
-                        Literal {
-                            variable,
-                            on: false,
-                        },
-                    );
-                if !decides {
+                let has = |branch: usize, on: bool| self.has(branch, Literal { variable, on });
+                if !has(on, true) || !has(off, false) {
                     return Err(Refusal::NoDecision);
                 }
                 let chances_of = |branch: usize| before[branch].intersection(self.chances);

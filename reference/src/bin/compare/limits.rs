@@ -117,7 +117,13 @@ fn names() -> Vec<Vec<u8>> {
         plant.variables[0].name = name;
         plant.text()
     };
-    names.into_iter().map(named).collect()
+    let mut files: Vec<Vec<u8>> = names.into_iter().map(named).collect();
+    for (first, second) in (0..5).flat_map(|first| (0..5).map(move |second| (first, second))) {
+        let mut plant = open_plant(2, 3);
+        plant.variables[first].name = plant.variables[second].name.clone();
+        files.push(plant.text());
+    }
+    files
 }
 
 /// Plants of which the pair pass just fits into the work table, or just not.

@@ -163,7 +163,7 @@ pub fn with_spoiled_circuit(random: &mut Random, plant: &Plant) -> Plant {
         0 => random.below(count + 3),
         _ => random.below(place.max(1)),
     };
-    match random.below(12) {
+    match random.below(13) {
         0 => {
             let other = random.below(count);
             plant.nodes.swap(place, other);
@@ -186,6 +186,11 @@ pub fn with_spoiled_circuit(random: &mut Random, plant: &Plant) -> Plant {
             name: format!("one more {}", random.below(100)),
         }),
         6 => drop(plant.variables.pop()),
+        8 => {
+            let other = random.below(plant.variables.len());
+            let variable = random.below(plant.variables.len());
+            plant.variables[variable].name = plant.variables[other].name.clone();
+        }
         7 => {
             let copied = random
                 .one_of(&plant.nodes.iter().collect::<Vec<_>>())
