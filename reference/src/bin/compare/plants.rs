@@ -3,7 +3,7 @@
 use std::collections::HashSet;
 
 use reference::script::Kind;
-use reference::table_file::{Node, MOST_NAME_BYTES, MOST_OPTIONS, MOST_VARIABLES};
+use reference::table_file::{Node, MOST_NAME_BYTES, MOST_NODES, MOST_OPTIONS, MOST_VARIABLES};
 use reference::variables::{Role, Variable};
 
 use crate::circuits::{any_circuit, random_circuit};
@@ -113,17 +113,28 @@ impl Size {
 
     /// From tiny to large, for a work table of so many figures.
     pub fn any(random: &mut Random, work_figures: usize) -> Self {
-        let size = match random.below(100) {
-            0..25 => return Size::tiny(random),
-            25..60 => return Size::small(random),
-            60..85 => Size::up_to(random, 10, 20, 1),
-            _ => Size::up_to(random, MOST_OPTIONS, MOST_VARIABLES - MOST_OPTIONS, 1),
-        };
-        let room = work_figures / (2 * size.options + 1);
+        match random.below(100) {
+            0..25 => Size::tiny(random),
+            25..60 => Size::small(random),
+            60..85 => Size::up_to(random, 10, 20, 1).filling(random, work_figures),
+            _ => Size::large(random, work_figures),
+        }
+    }
+
+    /// With up to all variables that a table may have, for a work table of so
+    /// many figures.
+    pub fn large(random: &mut Random, work_figures: usize) -> Self {
+        Size::up_to(random, MOST_OPTIONS, MOST_VARIABLES - MOST_OPTIONS, 1)
+            .filling(random, work_figures)
+    }
+
+    /// With nodes that mostly fit into a work table of so many figures.
+    fn filling(self, random: &mut Random, work_figures: usize) -> Self {
+        let room = work_figures / (2 * self.options + 1);
         let most = if random.percent(85) { room } else { 2 * room };
         Size {
-            nodes: random.between(1, most.min(4_096)),
-            ..size
+            nodes: random.between(1, most.min(MOST_NODES)),
+            ..self
         }
     }
 }
@@ -234,7 +245,7 @@ pub fn random_figure(random: &mut Random, kind: Kind, weights: Weights) -> Strin
         Weights::NearCap => match random.below(4) {
             0 => cap,
             1 => cap - random.below(10) as u64,
-            2 => (cap >> random.below(32)) + random.below(2) as u64 - 1,
+            2 => (cap >> random.below(32)) - random.below(2) as u64,
             _ => random.between(0, 3) as u64,
         },
     };

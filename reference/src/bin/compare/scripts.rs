@@ -143,8 +143,8 @@ fn some_number(random: &mut Random, plant: &Plant, role: Role) -> u16 {
     }
 }
 
-/// Lines that are of the forms of a script, or near them.
-pub fn near_lines(random: &mut Random) -> String {
+/// A line that is of a form of a script, or near one.
+pub fn near_line(random: &mut Random) -> String {
     let lines = [
         "C",
         "C\t",
@@ -208,7 +208,7 @@ pub fn near_lines(random: &mut Random) -> String {
     random.one_of(&lines).to_string()
 }
 
-/// Setup lines that are of the form, or near it.
+/// A setup line that is of the form, or near it.
 pub fn near_setup(random: &mut Random) -> String {
     if random.percent(25) {
         let lines = [

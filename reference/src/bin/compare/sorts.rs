@@ -5,7 +5,7 @@ use reference::script::Kind;
 use crate::limits::limit_files;
 use crate::plants::{any_plant, random_plant, Plant, Size};
 use crate::random::Random;
-use crate::scripts::{near_lines, near_setup, random_script, Script};
+use crate::scripts::{near_line, near_setup, random_script, Script};
 use crate::spoil::{
     byte_changes, byte_edits, rubbish, spoiled_weight_text, with_random_bytes,
     with_spoiled_circuit, with_spoiled_lines, with_spoiled_number,
@@ -166,7 +166,7 @@ pub const SORTS: &[Sort] = &[
     }),
     sort(Program::Calls, "large-days", 4, |source| {
         source.each(|random| {
-            let size = Size::any(random, CALLS_WORK_FIGURES);
+            let size = Size::large(random, CALLS_WORK_FIGURES);
             random_script(random, size, 10).text()
         })
     }),
@@ -196,7 +196,7 @@ pub const SORTS: &[Sort] = &[
                 script.setup = near_setup(random);
             } else {
                 let place = random.below(script.calls.len() + 1);
-                script.calls.insert(place, near_lines(random));
+                script.calls.insert(place, near_line(random));
             }
             script.text()
         })
