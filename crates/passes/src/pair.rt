@@ -1,14 +1,14 @@
 //! The pair pass: a value for every node, and its on and off value for each free option that it
 //! mentions.
-ghost use Rattle.std.specs.Prelude.{◌≡◌, ◌+◌, ◌*◌, ◌<◌, ◌≤◌, true, ◌++◌, length, take, drop, false, None};
+ghost use Rattle.std.specs.Prelude.{◌≡◌, ◌+◌, ◌*◌, ◌<◌, ◌≤◌, true, length, take, drop, false, None};
 ghost use Rattle.table.specs.Circuit.{mentions};
 ghost use Rattle.table.specs.Facts.{about};
 ghost use Rattle.table.specs.Sound.{options as options_of};
 ghost use Rattle.table.specs.Whole.{circuit, roles};
-ghost use Rattle.passes.specs.Passes.{work as laid_out, pairs};
 ghost use Rattle.passes.specs.Places.{stride, pair_places};
 ghost use Rattle.passes.specs.Rows.{under_in, open_at, side_or_zero, lowest, row_in, value_by, part_in};
 ghost use Rattle.passes.specs.Ways.{side_way};
+ghost use Rattle.passes.specs.Written.{PairsWritten};
 
 use crate::places::stride;
 use crate::plain::Plain;
@@ -195,7 +195,7 @@ impl<K: Figure> Query<'_, K> {
     fn write_parts(&self, options: &[u16], work: &mut [K])
         requires listed { options.now ≡ options_of (roles self.now.table.now) }
         requires room { pair_places (roles self.now.table.now) (circuit self.now.table.now) ≤ length work.old }
-        ensures { work.new ≡ laid_out K.ring (roles self.now.table.now) self.now.sheet.now (pairs K.ring (roles self.now.table.now) self.now.sheet.now (circuit self.now.table.now) self.now.holds.now.entries) ++ drop (pair_places (roles self.now.table.now) (circuit self.now.table.now)) work.old }
+        ensures { PairsWritten K.ring self.now work.old work.new }
     {
         let stride = stride(self.table);
         // By number: what `write_part` asks of a node, and of those before it, goes by its number.
@@ -210,7 +210,7 @@ impl<K: Figure> Query<'_, K> {
     /// number, zero where there is none.
     pub fn pair_pass(&self, work: &mut [K])
         requires room { pair_places (roles self.now.table.now) (circuit self.now.table.now) ≤ length work.old }
-        ensures { work.new ≡ laid_out K.ring (roles self.now.table.now) self.now.sheet.now (pairs K.ring (roles self.now.table.now) self.now.sheet.now (circuit self.now.table.now) self.now.holds.now.entries) ++ drop (pair_places (roles self.now.table.now) (circuit self.now.table.now)) work.old }
+        ensures { PairsWritten K.ring self.now work.old work.new }
     {
         let mut numbers = [0; 64];
         let count = list_options(self.table, &mut numbers);
