@@ -5,7 +5,7 @@ ghost use Rattle.table.specs.Sound.{known};
 ghost use Rattle.table.specs.Whole.{roles};
 
 use crate::holds::Holds;
-use crate::sheet::place_of;
+use crate::sheet::weight_of;
 use kinds::figure::Figure;
 use table::table::Table;
 
@@ -25,6 +25,6 @@ impl<K: Figure> Query<'_, K> {
         requires { known (length (roles self.now.table.now)) variable ≡ true }
         ensures { result ≡ weight K.ring self.now.sheet.now variable on }
     {
-        self.sheet[place_of(variable, on)]
+        weight_of(self.sheet, variable, on)
     }
 }

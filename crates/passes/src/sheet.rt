@@ -5,6 +5,9 @@ ghost use Rattle.passes.specs.Steps.{place};
 
 use kinds::figure::Figure;
 
+/// How many figures the largest sheet has: two for each of 64 variables.
+pub const LARGEST_SHEET: usize = 128;
+
 // That a variable's number is above 0 stands in several contracts: files and calls give plain numbers,
 // and a type of its own would be made and opened at every use.
 /// Where a variable's on (or off) weight stands.
@@ -14,6 +17,14 @@ pub(crate) fn place_of(variable: u16, on: bool) -> usize
 {
     let after = 2 * variable as usize;
     if on { after - 2 } else { after - 1 }
+}
+
+/// A variable's on (or off) weight, from the figures of a sheet.
+pub(crate) fn weight_of<K: Figure>(figures: &[K], variable: u16, on: bool) -> K
+    requires { (0 < variable) × (2 * variable ≤ length figures.now) }
+    ensures { result ≡ weight K.ring figures.now variable on }
+{
+    figures[place_of(variable, on)]
 }
 
 /// A caller's store of figures. Counted from 0, place 2i - 2 is the on weight of variable i, and
@@ -39,6 +50,6 @@ impl<K: Figure> Sheet<'_, K> {
         requires { (0 < variable) × (2 * variable ≤ length self.now.figures.now) }
         ensures { result ≡ weight K.ring self.now.figures.now variable on }
     {
-        self.figures[place_of(variable, on)]
+        weight_of(self.figures, variable, on)
     }
 }
