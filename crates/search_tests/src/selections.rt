@@ -134,9 +134,9 @@ impl<K: Written + PartialEq + Debug> Plant<'_, K> {
         selections: &[Selected<K>],
         case: &impl Display,
     ) -> Result<Found<K>, Fail> {
-        let Ok(found) = select(&self.table, held, &self.sheet, self.work, order) else {
-            return Err(Fail::new(format_args!("select is refused: {case}")));
-        };
+        let found = select(&self.table, held, &self.sheet, self.work, order).map_err(|_| Fail::new(
+            format_args!("select is refused: {case}"),
+        ))?;
         check_found(rt, found, held, selections, case)?;
         Ok(found)
     }
@@ -156,9 +156,9 @@ impl<K: Written + PartialEq + Debug> Plant<'_, K> {
             best: K::zero(),
             openings: 0,
         };
-        let Some(end) = self.open(held, 4, start) else {
-            return Err(Fail::new(format_args!("the walk is refused: {case}")));
-        };
+        let end = self
+            .open(held, 4, start)
+            .ok_or_else(|| Fail::new(format_args!("the walk is refused: {case}")))?;
         assert_eq!(rt; found.openings, end.openings, "openings: {case}");
         Ok(())
     }
@@ -180,12 +180,10 @@ fn check_found<K: Written + PartialEq + Debug>(
     };
     assert!(rt; !best.no_higher(K::zero()), "some: {case}");
     assert!(rt; is_kept(held, &selection.holds), "kept: {case}");
-    let Some((chosen, own)) = selections
+    let (chosen, own) = selections
         .iter()
         .find(|(chosen, _)| is_kept(chosen, &selection.holds))
-    else {
-        return Err(Fail::new(format_args!("no selection: {case}")));
-    };
+        .ok_or_else(|| Fail::new(format_args!("no selection: {case}")))?;
     assert_eq!(rt; selection.figure, best, "best: {case}");
     assert_eq!(rt; selection.figure, *own, "its own: {case}");
     assert_eq!(rt; selection.holds, *chosen, "{case}");

@@ -85,9 +85,9 @@ impl<K: Written> Study<'_, K> {
         case: &impl Display,
     ) -> Result<(), Fail> {
         let (spoken, due) = step;
-        let Some(call) = call_of(spoken) else {
-            return Err(Fail::new(format_args!("no call: call {number}: {spoken}: {case}")));
-        };
+        let call = call_of(spoken).ok_or_else(|| Fail::new(format_args!(
+            "no call: call {number}: {spoken}: {case}"
+        )))?;
         let before = self.show(heap)?;
         let Study {
             table,
