@@ -22,8 +22,8 @@ use table::table::Table;
 use text::fields::NEWLINE;
 use text::record::Variables;
 
-// Matches here and in what follows, and no error for `?`: it would want a conversion from each layer's
-// refusal and from no memory, and the part that is refused beside it.
+// Matches, and no error for `?`: what is said of a refused weight text stands behind what is said of
+// the table, and for the other two an error with its conversions would be longer than they are.
 /// What the program prints for a file: what was done on its plant, or why the file is refused.
 pub(crate) fn tell(heap: Global, file: &[u8]) -> Result<String, AllocError>
     ensures { IfOk result (λ s. told (refusal_of file.now) (string_bytes s)) }
