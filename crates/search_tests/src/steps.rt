@@ -40,7 +40,7 @@ pub(crate) fn table_of<'a>(stores: &'a Stores, case: &impl Display) -> Result<Ta
         .map_err(|_| Fail::new(format_args!("refused: {case}")))
 }
 
-// What the calls of a study may change, as texts.
+// What the calls of a study may change, as texts: a test that fails shows them as the cases do.
 #[derive(Drop)]
 struct Shown {
     holds: String,
