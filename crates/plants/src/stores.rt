@@ -13,7 +13,7 @@ use table::table::Table;
 use text::record::{Form, Node, Variables};
 use text::refusal::Refusal;
 
-const BLANK: Node = Node {
+pub const BLANK: Node = Node {
     form: Form::And,
     first: 0,
     count: 0,
