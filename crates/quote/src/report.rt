@@ -92,6 +92,7 @@ impl<'a> fmt::Display for Counts<'a> {
     }
 }
 
+// Here and in `checked_text` a match: for one refusal an error enum with its conversions is longer.
 /// What the program prints for a file.
 pub fn report(heap: Global, file: &[u8]) -> Result<String, AllocError>
     ensures { IfOk result (λ s. string_bytes s ≡ text_of (reported file.now)) }
