@@ -39,12 +39,12 @@ fn run<K: Written + Clone>(
         let start = Instant::now(rt)?;
         let bound = repeat_bound(table, sheet, &holds, &mut work, repeats.unwrap_or(1));
         let time = start.elapsed(rt)?;
-        let text = match bound {
-            Some(figure) => figure.write(rt.alloc())?,
-            None => format!(in rt.alloc(); "none")?,
-        };
         let free = table.variables.options().saturating_sub(held as usize);
-        println!(rt; "{kind}\tfree options {free}\tbound {text}")?;
+        print!(rt; "{kind}\tfree options {free}\tbound ")?;
+        match bound {
+            Some(figure) => println!(rt; "{figure}")?,
+            None => println!(rt; "none")?,
+        }
         if let Some(count) = repeats {
             if let Some(each) = time.checked_div(count) {
                 println!(rt; "\t{count} times\t{} microseconds each", each.as_micros())?;

@@ -4,31 +4,38 @@ use kinds::value::{Load, Peak, Tally};
 use passes::holds::Holds;
 use passes::places::pair_places;
 use passes::query::Query;
+use passes::sheet::LARGEST_SHEET;
 use std::alloc::{AllocError, Global};
 use table::table::Table;
 
 /// A sheet for 64 variables, with the on and the off weight that `weigh` gives each of them.
-fn sheet_of<K: Drop, F: Fn(u32) -> (K, K)>(weigh: F, heap: Global) -> Result<Vec<K>, AllocError>
+fn sheet_of<K: Drop, F: Fn(usize, bool) -> K>(weigh: F, heap: Global) -> Result<Vec<K>, AllocError>
     requires { F.IsAlwaysCallable weigh }
 {
-    let mut sheet = Vec::new(heap);
-    for variable in 0..64 {
-        let (on, off) = weigh(variable);
-        sheet.push(on)?;
-        sheet.push(off)?;
-    }
-    Ok(sheet)
+    (0..LARGEST_SHEET)
+        .map(|place| weigh(place / 2, place % 2 == 0))
+        .collect(heap)
 }
 
 /// Tallies: one for on, two for off.
 pub(crate) fn tally_sheet(heap: Global) -> Result<Vec<Tally>, AllocError> {
-    sheet_of(|_| (Tally { count: 1 }, Tally { count: 2 }), heap)
+    sheet_of(
+        |_, on| Tally {
+            count: if on { 1 } else { 2 },
+        },
+        heap,
+    )
 }
 
 /// Peaks: a load that differs from variable to variable for on, none for off.
 pub(crate) fn peak_sheet(heap: Global) -> Result<Vec<Peak>, AllocError> {
-    let peak = |watts| Peak::Load(Load { watts });
-    sheet_of(|i| (peak(i.wrapping_mul(37) % 50), peak(0)), heap)
+    let watts = |variable: usize| (variable.wrapping_mul(37) % 50) as u32;
+    sheet_of(
+        |variable, on| Peak::Load(Load {
+            watts: if on { watts(variable) } else { 0 },
+        }),
+        heap,
+    )
 }
 
 /// The first options are held, on and off by turns.
@@ -40,19 +47,8 @@ pub(crate) fn holds_of(held: u16) -> Holds {
     holds
 }
 
-/// The bound, or none where a store is too short.
-fn bound_in<K: Figure>(table: &Table, sheet: &[K], holds: &Holds, work: &mut [K]) -> Option<K> {
-    let sheet = sheet.get(..2 * table.variables.count as usize)?;
-    let query = Query {
-        table,
-        sheet,
-        holds,
-    };
-    let work = work.get_mut(..pair_places(table))?;
-    Some(query.pair_bound(work))
-}
-
-/// The bound, worked out some times over.
+/// The bound, worked out some times over, or none where a store is too short.
+// By the query's parts, since the test that the sheet is long enough is made here.
 pub(crate) fn repeat_bound<K: Figure>(
     table: &Table,
     sheet: &[K],
@@ -60,9 +56,16 @@ pub(crate) fn repeat_bound<K: Figure>(
     work: &mut [K],
     repeats: u32,
 ) -> Option<K> {
+    let sheet = sheet.get(..2 * table.variables.count as usize)?;
+    let query = Query {
+        table,
+        sheet,
+        holds,
+    };
+    let places = work.get_mut(..pair_places(table))?;
     let mut bound = None;
     for _ in 0..repeats {
-        bound = bound_in(table, sheet, holds, work);
+        bound = Some(query.pair_bound(places));
     }
     bound
 }

@@ -27,6 +27,7 @@ const UPPER_WIDTHS: &[u16] = &[
 ];
 
 /// The parts of a table.
+// Not `parts::stores::Parts`: these are built here and not read from a file, so there are no `Contents`.
 #[derive(Drop)]
 pub struct Plant {
     pub nodes: Vec<Node>,
@@ -140,14 +141,15 @@ impl Plant {
 
     /// Adds the forks of a level: their numbers.
     fn add_level(&mut self, level: Level, heap: Global) -> Result<Vec<u16>, AllocError> {
-        let mut forks = Vec::new(heap);
-        for place in (0..level.width.wrapping_mul(2)).step_by(2) {
-            let on = self.add_branch(level, true, place, heap)?;
-            let off = self.add_branch(level, false, place.wrapping_add(1), heap)?;
-            let variable = level.decided;
-            forks.push(self.add(Form::Fork { variable }, &[on, off])?)?;
-        }
-        Ok(forks)
+        let variable = level.decided;
+        (0..level.width.wrapping_mul(2))
+            .step_by(2)
+            .map(|place| {
+                let on = self.add_branch(level, true, place, heap)?;
+                let off = self.add_branch(level, false, place.wrapping_add(1), heap)?;
+                self.add(Form::Fork { variable }, &[on, off])
+            })
+            .try_collect(heap)
     }
 
     /// Adds a lower part: the forks of its highest level.
@@ -157,8 +159,7 @@ impl Plant {
         ends: &[u16],
         heap: Global,
     ) -> Result<Vec<u16>, AllocError> {
-        let mut below = Vec::new(heap);
-        below.extend_from_slice(ends)?;
+        let mut below = ends.to_vec(heap)?;
         for &decided in decided {
             let level = Level {
                 decided,
@@ -174,8 +175,7 @@ impl Plant {
 
     /// Adds the upper part, over the two lower ones.
     fn add_upper(&mut self, first: &[u16], second: &[u16], heap: Global) -> Result<(), AllocError> {
-        let mut below = Vec::new(heap);
-        below.extend_from_slice(first)?;
+        let mut below = first.to_vec(heap)?;
         let mut beside = second;
         for (&width, decided) in UPPER_WIDTHS.iter().zip((33..64u16).step_by(2)) {
             let level = Level {

@@ -13,3 +13,4 @@ pub mod Filters
 pub mod PairParts
 pub mod Above
 pub mod Below
+pub mod Chains

@@ -6,3 +6,4 @@ pub mod Steps
 pub mod Ways
 pub mod Rows
 pub mod Places
+pub mod Written

@@ -6,8 +6,9 @@ ghost use Rattle.table.specs.Sound.{chances};
 ghost use Rattle.table.specs.Whole.{circuit, roles};
 ghost use Rattle.passes.specs.Bounding.{PlainWhereHeld};
 ghost use Rattle.passes.specs.Holding.{Keeps, Complete, selected};
-ghost use Rattle.passes.specs.Passes.{plains, plain_bound as plain_bound_of, pairs, bound, work as laid_out};
+ghost use Rattle.passes.specs.Passes.{plains, plain_bound as plain_bound_of, bound};
 ghost use Rattle.passes.specs.Places.{pair_places};
+ghost use Rattle.passes.specs.Written.{PairsWritten};
 
 use crate::figure::last_of;
 use crate::places::stride;
@@ -34,7 +35,7 @@ impl<K: Figure> Query<'_, K> {
         ensures tight { K.ring.upto result (plain_bound_of K.ring (roles self.now.table.now) self.now.sheet.now (circuit self.now.table.now) self.now.holds.now.entries) ≡ true }
         ensures meets { Complete (roles self.now.table.now) self.now.holds.now.entries → K.ring.upto result (figure K.ring (circuit self.now.table.now) (chances (roles self.now.table.now)) self.now.sheet.now (selected self.now.holds.now.entries)) ≡ true }
         ensures held { PlainWhereHeld K.ring (roles self.now.table.now) (circuit self.now.table.now) self.now.sheet.now }
-        ensures work { work.new ≡ laid_out K.ring (roles self.now.table.now) self.now.sheet.now (pairs K.ring (roles self.now.table.now) self.now.sheet.now (circuit self.now.table.now) self.now.holds.now.entries) ++ drop (pair_places (roles self.now.table.now) (circuit self.now.table.now)) work.old }
+        ensures work { PairsWritten K.ring self.now work.old work.new }
     {
         self.pair_pass(work);
         let root = self.table.nodes.len() - 1;

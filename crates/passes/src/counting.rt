@@ -21,13 +21,7 @@ impl<K: Figure> Rule<K> for Counting {
     ghost child_in = { λ s q. value_in K.ring };
 
     fn literal(&self, query: &Query<K>, variable: u16, on: bool) -> K {
-        if !query.table.has_option(variable) {
-            query.weight(variable, on)
-        } else if query.holds.is_on(variable) == on {
-            K::one()
-        } else {
-            K::zero()
-        }
+        query.literal(variable, on, query.holds.is_on(variable) == on)
     }
 
     fn truth(&self, _query: &Query<K>) -> K {

@@ -1,5 +1,5 @@
 //! The figure of the selection held.
-ghost use Rattle.std.specs.Prelude.{◌≡◌, ◌-◌, ◌*◌, ◌<◌, ◌≤◌, ◌++◌, length, drop, slice_index_or};
+ghost use Rattle.std.specs.Prelude.{◌≡◌, ◌-◌, ◌<◌, ◌≤◌, ◌++◌, length, drop, slice_index_or};
 ghost use Rattle.table.specs.Count.{figure as figure_of};
 ghost use Rattle.table.specs.Sound.{chances};
 ghost use Rattle.table.specs.Whole.{circuit, roles};

@@ -80,8 +80,7 @@ impl Holds {
 
     /// Whether a variable is not held.
     pub(crate) fn is_free(&self, variable: u16) -> bool
-        requires { 0 < variable }
-        ensures { result ≡ is_free (entry_of self.now.entries variable) }
+        ensures { result ≡ is_free (entry_at self.now.entries variable) }
     {
         self.entry(variable) == Entry::Free
     }

@@ -1,14 +1,14 @@
 //! The pair pass: a value for every node, and its on and off value for each free option that it
 //! mentions.
-ghost use Rattle.std.specs.Prelude.{◌≡◌, ◌+◌, ◌*◌, ◌<◌, ◌≤◌, true, ◌++◌, length, take, drop, false, None};
+ghost use Rattle.std.specs.Prelude.{◌≡◌, ◌+◌, ◌*◌, ◌<◌, ◌≤◌, true, length, take, drop, false, None};
 ghost use Rattle.table.specs.Circuit.{mentions};
 ghost use Rattle.table.specs.Facts.{about};
 ghost use Rattle.table.specs.Sound.{options as options_of};
 ghost use Rattle.table.specs.Whole.{circuit, roles};
-ghost use Rattle.passes.specs.Passes.{work as laid_out, pairs};
 ghost use Rattle.passes.specs.Places.{stride, pair_places};
-ghost use Rattle.passes.specs.Rows.{under_in, open_at, side_or_zero, lower, lowest, row_in, value_by, part_in};
+ghost use Rattle.passes.specs.Rows.{under_in, open_at, side_or_zero, lowest, row_in, value_by, part_in};
 ghost use Rattle.passes.specs.Ways.{side_way};
+ghost use Rattle.passes.specs.Written.{PairsWritten};
 
 use crate::places::stride;
 use crate::plain::Plain;
@@ -77,7 +77,6 @@ struct Step<'a, 'b, 'c, K> {
 impl<K: Figure> Step<'_, '_, '_, K> {
     /// Whether the node has values for an option: the option is free, and the node mentions it.
     fn is_open(&self, variable: u16) -> bool
-        requires { 0 < variable }
         ensures { result ≡ open_at self.now.query.now.holds.now.entries (about (circuit self.now.query.now.table.now) self.now.node) variable }
     {
         self.query.holds.is_free(variable) && self.query.table.does_mention(self.node, variable)
@@ -131,13 +130,12 @@ impl<K: Figure> Step<'_, '_, '_, K> {
         requires { length row.now ≡ 2 * length self.now.options.now }
         ensures { result ≡ lowest K.ring (open_at self.now.query.now.holds.now.entries (about (circuit self.now.query.now.table.now) self.now.node)) row.now None self.now.options.now }
     {
-        let mut best = None;
-        for (variable, pair) in self.options.iter().zip(row.chunks_exact(2)) {
-            if self.is_open(*variable) {
-                best = Some(lower(best, greater(pair[0], pair[1])));
-            }
-        }
-        best
+        self.options
+            .iter()
+            .zip(row.chunks_exact(2))
+            .filter(|(variable, _)| self.is_open(**variable))
+            .map(|(_, pair)| greater(pair[0], pair[1]))
+            .reduce(|least, figure| lesser(least, figure))
     }
 
     /// The node's value: the least over the free options that it mentions, or its plain value.
@@ -151,13 +149,6 @@ impl<K: Figure> Step<'_, '_, '_, K> {
             None => self.query.node_at(&Plain, &self.values, self.node),
         }
     }
-}
-
-/// The lesser of the least so far and one more figure.
-fn lower<K: Figure>(best: Option<K>, figure: K) -> K
-    ensures { result ≡ lower K.ring best figure }
-{
-    best.map_or(figure, |least| lesser(least, figure))
 }
 
 /// Lists the options by rising number: how many there are.
@@ -204,7 +195,7 @@ impl<K: Figure> Query<'_, K> {
     fn write_parts(&self, options: &[u16], work: &mut [K])
         requires listed { options.now ≡ options_of (roles self.now.table.now) }
         requires room { pair_places (roles self.now.table.now) (circuit self.now.table.now) ≤ length work.old }
-        ensures { work.new ≡ laid_out K.ring (roles self.now.table.now) self.now.sheet.now (pairs K.ring (roles self.now.table.now) self.now.sheet.now (circuit self.now.table.now) self.now.holds.now.entries) ++ drop (pair_places (roles self.now.table.now) (circuit self.now.table.now)) work.old }
+        ensures { PairsWritten K.ring self.now work.old work.new }
     {
         let stride = stride(self.table);
         // By number: what `write_part` asks of a node, and of those before it, goes by its number.
@@ -219,7 +210,7 @@ impl<K: Figure> Query<'_, K> {
     /// number, zero where there is none.
     pub fn pair_pass(&self, work: &mut [K])
         requires room { pair_places (roles self.now.table.now) (circuit self.now.table.now) ≤ length work.old }
-        ensures { work.new ≡ laid_out K.ring (roles self.now.table.now) self.now.sheet.now (pairs K.ring (roles self.now.table.now) self.now.sheet.now (circuit self.now.table.now) self.now.holds.now.entries) ++ drop (pair_places (roles self.now.table.now) (circuit self.now.table.now)) work.old }
+        ensures { PairsWritten K.ring self.now work.old work.new }
     {
         let mut numbers = [0; 64];
         let count = list_options(self.table, &mut numbers);

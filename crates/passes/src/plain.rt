@@ -21,13 +21,7 @@ impl<K: Figure> Rule<K> for Plain {
     ghost child_in = { λ s q. value_in K.ring };
 
     fn literal(&self, query: &Query<K>, variable: u16, on: bool) -> K {
-        if !query.table.has_option(variable) {
-            query.weight(variable, on)
-        } else if query.holds.denies(variable, on) {
-            K::zero()
-        } else {
-            K::one()
-        }
+        query.literal(variable, on, !query.holds.denies(variable, on))
     }
 
     fn truth(&self, _query: &Query<K>) -> K {

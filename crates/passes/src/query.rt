@@ -1,8 +1,9 @@
 //! What a pass is asked.
-ghost use Rattle.std.specs.Prelude.{◌≡◌, ◌*◌, ◌≤◌, true, length};
+ghost use Rattle.std.specs.Prelude.{◌≡◌, ◌*◌, ◌≤◌, true, cond, length};
 ghost use Rattle.table.specs.Count.{weight};
-ghost use Rattle.table.specs.Sound.{known};
+ghost use Rattle.table.specs.Sound.{known, is_option};
 ghost use Rattle.table.specs.Whole.{roles};
+ghost use Rattle.passes.specs.Ways.{indicator};
 
 use crate::holds::Holds;
 use crate::sheet::weight_of;
@@ -26,5 +27,19 @@ impl<K: Figure> Query<'_, K> {
         ensures { result ≡ weight K.ring self.now.sheet.now variable on }
     {
         weight_of(self.sheet, variable, on)
+    }
+
+    /// What a literal counts: a chance's its weight, an option's one if it is taken, else zero.
+    pub(crate) fn literal(&self, variable: u16, on: bool, taken: bool) -> K
+        requires { known (length (roles self.now.table.now)) variable ≡ true }
+        ensures { result ≡ cond (is_option (roles self.now.table.now) variable) (indicator K.ring taken) (weight K.ring self.now.sheet.now variable on) }
+    {
+        if !self.table.has_option(variable) {
+            self.weight(variable, on)
+        } else if taken {
+            K::one()
+        } else {
+            K::zero()
+        }
     }
 }

@@ -18,7 +18,8 @@ use text::record::{Form, Node};
 
 /// The rule of a pass: what a literal counts, what true counts, how a fork joins its branches, and
 /// what a node counts as a child of another.
-// Counting and Plain write the same `truth` and `child`; a body here must fit every rule's `way`.
+// Counting and Plain write the same `truth` and `child`, Plain and Side the same `join`: a body here
+// must fit every rule's `way`.
 pub(crate) trait Rule<K: Figure> {
     ghost way: { Self → Query K → Way K };
 

@@ -4,11 +4,9 @@ use parts::stores::Room;
 use passes::holds::Holds;
 use passes::places::pair_places;
 use passes::query::Query;
-use plants::stores::Stores;
+use plants::stores::{BLANK, Stores};
 use std::alloc::Global;
 use std::test::Fail;
-use table::table::Table;
-use text::record::{Form, Node};
 
 /// The figure of the selection held, the plain bound and the bound.
 #[derive(Clone, Copy, PartialEq, Eq, Debug)]
@@ -31,18 +29,10 @@ pub(crate) fn holds_of(letters: &str) -> Holds {
     holds
 }
 
-// The pair pass comes last, so its work table stays. None where a store is too short.
-fn run<K: Figure>(table: &Table, sheet: &[K], holds: &Holds, work: &mut [K]) -> Option<Answers<K>> {
-    if sheet.len() < 2 * table.variables.as_slice().len() {
-        return None;
-    }
-    let query = Query {
-        table,
-        sheet,
-        holds,
-    };
+// The pair pass comes last, so its work table stays. None where the work table is too short.
+fn run<K: Figure>(query: &Query<K>, work: &mut [K]) -> Option<Answers<K>> {
     // All of it is lent: what the passes do not write is looked at afterwards.
-    if work.len() < pair_places(table) {
+    if work.len() < pair_places(query.table) {
         return None;
     }
     let figure = query.count_figure(work);
@@ -59,11 +49,7 @@ fn run<K: Figure>(table: &Table, sheet: &[K], holds: &Holds, work: &mut [K]) -> 
 const SMALL: Room = Room {
     nodes: 64,
     children: 64,
-    node: Node {
-        form: Form::And,
-        first: 0,
-        count: 0,
-    },
+    node: BLANK,
     child: 0,
 };
 
@@ -80,5 +66,13 @@ pub(crate) fn ask<K: Figure>(
     work: &mut [K],
 ) -> Result<Answers<K>, Fail> {
     let table = stores.table().map_err(|_| Fail::new("refused"))?;
-    run(&table, sheet, holds, work).ok_or_else(|| Fail::new("a store is too short"))
+    if sheet.len() < 2 * table.variables.as_slice().len() {
+        return Err(Fail::new("the sheet is too short"));
+    }
+    let query = Query {
+        table: &table,
+        sheet,
+        holds,
+    };
+    run(&query, work).ok_or_else(|| Fail::new("the work table is too short"))
 }

@@ -16,11 +16,7 @@ pub type Due = (&'static str, u64, u64, u64);
 
 /// The tallies of these numbers.
 pub(crate) fn tallies(counts: &[u64], heap: Global) -> Result<Vec<Tally>, Fail> {
-    let mut figures = Vec::new(heap);
-    for count in counts {
-        figures.push(Tally { count: *count })?;
-    }
-    Ok(figures)
+    Ok(counts.iter().map(|&count| Tally { count }).collect(heap)?)
 }
 
 /// The passes answer this on this sheet of tallies.

@@ -62,20 +62,23 @@ fn weight_of(world: u64) -> u64 {
         .fold(1u64, |product, weight| product.wrapping_mul(*weight))
 }
 
+// The figure of a selection, from its 16 worlds.
+fn figure_of(stores: &Stores, selection: u64, heap: Global) -> Result<u64, Fail> {
+    let mut sum = 0u64;
+    for scenario in 0..16u64 {
+        let world = selection.wrapping_add(scenario.wrapping_mul(16));
+        if holds_in(stores, world, heap)? {
+            sum = sum.wrapping_add(weight_of(world));
+        }
+    }
+    Ok(sum)
+}
+
 // The figures of the 16 selections, from all 256 worlds.
 fn figures_of(stores: &Stores, heap: Global) -> Result<Vec<u64>, Fail> {
-    let mut figures = Vec::new(heap);
-    for selection in 0..16u64 {
-        let mut sum = 0u64;
-        for scenario in 0..16u64 {
-            let world = selection.wrapping_add(scenario.wrapping_mul(16));
-            if holds_in(stores, world, heap)? {
-                sum = sum.wrapping_add(weight_of(world));
-            }
-        }
-        figures.push(sum)?;
-    }
-    Ok(figures)
+    (0..16u64)
+        .map(|selection| figure_of(stores, selection, heap))
+        .try_collect(heap)
 }
 
 // Holds by a number below 81: a digit to base 3 for each option, 0 free, 1 on, 2 off.
@@ -104,12 +107,12 @@ fn is_kept(holds: &Holds, selection: u64) -> bool {
 
 // The figures of the selections that keep them, in order: the first has the free options off.
 fn kept_by(holds: &Holds, figures: &[u64], heap: Global) -> Result<Vec<u64>, Fail> {
-    let mut kept = Vec::new(heap);
-    for (selection, figure) in figures.iter().enumerate() {
-        if is_kept(holds, selection as u64) {
-            kept.push(*figure)?;
-        }
-    }
+    let kept = figures
+        .iter()
+        .enumerate()
+        .filter(|(selection, _)| is_kept(holds, *selection as u64))
+        .map(|(_, figure)| *figure)
+        .collect(heap)?;
     Ok(kept)
 }
 

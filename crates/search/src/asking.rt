@@ -1,4 +1,5 @@
 //! The calls of a study that answer a figure. A refused call changes nothing.
+// A study's parts are lent one by one, as in `study`: a call's signature shows what it may change.
 ghost use Rattle.std.specs.Prelude.{◌≡◌, ◌≤◌, false, length, is_ok};
 ghost use Rattle.table.specs.Whole.{circuit, roles};
 ghost use Rattle.search.specs.Best.{Answers};

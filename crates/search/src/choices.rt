@@ -1,5 +1,5 @@
 //! The free options, and the one that an order names.
-ghost use Rattle.std.specs.Prelude.{◌≡◌, ◌+◌, ◌*◌, ◌<◌, ◌≤◌, [], ◌∷◌, ◌++◌, length, take};
+ghost use Rattle.std.specs.Prelude.{◌≡◌, ◌+◌, ◌<◌, ◌≤◌, [], ◌∷◌, ◌++◌, length, take};
 ghost use Rattle.table.specs.Whole.{circuit, roles};
 ghost use Rattle.passes.specs.Places.{stride};
 ghost use Rattle.search.specs.Listing.{choices_from, root_mentions, choices as choices_of};
@@ -9,10 +9,12 @@ ghost use Rattle.search.specs.Walk.{as_option, gate};
 
 use crate::choice::Choice;
 use crate::order::BranchingOrder;
+use crate::plan::Plan;
 use kinds::figure::Figure;
 use passes::holds::{Entry, Holds};
 use table::table::Table;
 
+// Six parameters: a struct of them would be made for each option, and serve this call alone.
 /// Lists an option behind the first `count` choices if it is free: how many there are then.
 /// `index` options come before it.
 fn list_choice(
@@ -56,30 +58,26 @@ fn list_choices(table: &Table, holds: &Holds, out: &mut [Choice]) -> usize
     count
 }
 
-/// The option that an order names of the free ones, which are at most `levels`, if one is free.
-/// `part` is the root's part of the work table.
-pub(crate) fn next_option<K: Figure, O: BranchingOrder<K>>(
-    table: &Table,
-    holds: &Holds,
-    order: &O,
-    levels: usize,
-    part: &[K],
-) -> Option<u16>
-    requires { length part.now ≡ stride (roles table.now) }
-    ensures { result ≡ as_option (gate levels (named (O.picks order.now) (told K.ring part.now (choices_of (roles table.now) (circuit table.now) holds.now.entries)))) }
-{
-    if levels == 0 {
-        return None;
+impl<K: Figure, O: BranchingOrder<K>> Plan<'_, K, O> {
+    /// The option that the order names of the free ones, which are at most `levels`, if one is
+    /// free. `part` is the root's part of the work table.
+    pub(crate) fn next_option(&self, holds: &Holds, levels: usize, part: &[K]) -> Option<u16>
+        requires { length part.now ≡ stride (roles self.now.table.now) }
+        ensures { result ≡ as_option (gate levels (named (O.picks self.now.order.now) (told K.ring part.now (choices_of (roles self.now.table.now) (circuit self.now.table.now) holds.now.entries)))) }
+    {
+        if levels == 0 {
+            return None;
+        }
+        // An array with a count: the engine has no heap.
+        let mut choices = [Choice {
+            option: 0,
+            mentioned: false,
+            place: 0,
+        }; 64];
+        let count = list_choices(self.table, holds, &mut choices);
+        if count == 0 {
+            return None;
+        }
+        Some(self.order.pick(&choices[..count], part))
     }
-    // An array with a count: the engine has no heap.
-    let mut choices = [Choice {
-        option: 0,
-        mentioned: false,
-        place: 0,
-    }; 64];
-    let count = list_choices(table, holds, &mut choices);
-    if count == 0 {
-        return None;
-    }
-    Some(order.pick(&choices[..count], part))
 }

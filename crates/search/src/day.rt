@@ -1,4 +1,5 @@
 //! A working day: a list of calls on one new study.
+// A study's parts are lent one by one, as in `study`: a call's signature shows what it may change.
 ghost use Rattle.std.specs.Prelude.{◌≡◌, length, take, drop};
 ghost use Rattle.table.specs.Whole.{circuit, roles};
 ghost use Rattle.search.specs.Calls.{BehindKept};

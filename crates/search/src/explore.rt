@@ -1,11 +1,10 @@
 //! Branch and bound: a loop with a trail.
-ghost use Rattle.std.specs.Prelude.{◌≡◌, ◌*◌, ◌^◌, ◌<◌, ◌≤◌, length};
+ghost use Rattle.std.specs.Prelude.{◌≡◌, ◌^◌, ◌<◌, ◌≤◌, length};
 ghost use Rattle.table.specs.Whole.{circuit, roles};
 ghost use Rattle.search.specs.Calls.{places, BehindKept};
 ghost use Rattle.search.specs.Select.{best_figure, offered, of_table, select};
 ghost use Rattle.search.specs.Walk.{as_option, turn, back};
 
-use crate::choices::next_option;
 use crate::found::{Found, Selection};
 use crate::order::BranchingOrder;
 use crate::plan::Plan;
@@ -88,13 +87,7 @@ impl<K: Figure, O: BranchingOrder<K>> Plan<'_, K, O> {
         }
         let stride = stride(self.table);
         let base = (self.table.nodes.len() - 1) * stride;
-        let next = next_option(
-            self.table,
-            holds,
-            self.order,
-            levels,
-            &work[base..base + stride],
-        );
+        let next = self.next_option(holds, levels, &work[base..base + stride]);
         if next.is_none() {
             let figure = query.count_figure(work);
             found.offer(holds, figure);

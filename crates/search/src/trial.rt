@@ -1,4 +1,5 @@
 //! A trial: the bound as it would be with one option held.
+// A study's parts are lent one by one, as in `study`: a call's signature shows what it may change.
 ghost use Rattle.std.specs.Prelude.{◌≡◌, ◌*◌, ◌<◌, ◌≤◌, false, length, is_ok};
 ghost use Rattle.table.specs.Whole.{circuit, roles};
 ghost use Rattle.passes.specs.Marks.{with_entry, held};

@@ -77,14 +77,13 @@ pub fn read_weights<K: Written>(
     require_sheet(table, sheet.figures.len())?;
     let count = 2 * table.variables.as_slice().len();
     write_ones(sheet.figures, count);
-    // A loop: each line begins where the one before it ends.
+    // A loop over what is left: a last line with no end is refused, and no lemma of the library says
+    // which parts `split_inclusive` gives.
     let mut line = 1;
     let mut rest = text;
     while !rest.is_empty() {
-        let Some(content) = first_line(rest) else {
-            let reason = Reason::Line;
-            return Err(Fault::from(TextFault::Line { reason, line }));
-        };
+        let reason = Reason::Line;
+        let content = first_line(rest).ok_or(TextFault::Line { reason, line })?;
         let weighing = weight_line(table, content, line)?;
         sheet.weigh(weighing.variable, weighing.on, weighing.off);
         rest = &rest[content.len() + 1..];

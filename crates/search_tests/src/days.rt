@@ -54,14 +54,12 @@ const ENDS: &[(usize, &str, &str)] = &[
 ];
 
 fn calls_of(steps: &[Step], heap: Global, case: &impl Display) -> Result<Vec<Call<Tally>>, Fail> {
-    let mut calls = Vec::new(heap);
-    for (spoken, _) in steps {
-        let Some(call) = call_of(*spoken) else {
-            return Err(Fail::new(format_args!("no call: {case}")));
-        };
-        calls.push(call)?;
-    }
-    Ok(calls)
+    steps
+        .iter()
+        .map(|(spoken, _)| call_of(*spoken).ok_or_else(|| Fail::new(format_args!(
+            "no call: {case}"
+        ))))
+        .try_collect(heap)
 }
 
 // Answers stand in the first places; behind the day's calls the mark stays.

@@ -58,10 +58,9 @@ fn left(rt: HostRuntime) -> Result<(), Fail> {
     for (held, step, written) in WRITTEN {
         let work = work_after(&rt, &plant, *held, *step, heap)?;
         let shown = show_figures(work.as_slice(), heap)?;
-        let mut due = String::from_str(heap, *written)?;
-        for _ in written.split_whitespace().count()..25 {
-            due.push_str("901 ")?;
-        }
+        let places = written.split_whitespace().count();
+        let unwritten = "901 ".repeat(heap, 25usize.saturating_sub(places))?;
+        let due = format!(in heap; "{written}{unwritten}")?;
         assert_eq!(rt; shown.as_str(), due.as_str(), "{}", step.0);
     }
     for (held, step) in BEHIND {

@@ -1,7 +1,7 @@
 //! Select against all selections, one by one.
-use crate::shown::show_holds;
 use crate::steps::{Step, Study, table_of};
 use kinds::figure::Figure;
+use kinds::order::greater;
 use kinds::value::{Peak, Tally};
 use kinds::written::Written;
 use passes::holds::{Entry, Holds};
@@ -13,8 +13,8 @@ use search::found::Found;
 use search::number_order::NumberOrder;
 use search::order::BranchingOrder;
 use search::strongest_lean::StrongestLean;
-use std::alloc::Global;
-use std::fmt::Display;
+use std::alloc::{AllocError, Global};
+use std::fmt::{Debug, Display};
 use std::process::Abort;
 use std::test::Fail;
 use table::table::Table;
@@ -57,14 +57,9 @@ fn lowest_free(holds: &Holds) -> Option<u16> {
 }
 
 fn sheet_of<K: Written>(text: &str, heap: Global) -> Result<Vec<K>, Fail> {
-    let mut figures = Vec::new(heap);
-    for word in text.split_whitespace() {
-        let Some(figure) = K::read(word.as_bytes()) else {
-            return Err(Fail::new("no figure"));
-        };
-        figures.push(figure)?;
-    }
-    Ok(figures)
+    text.split_whitespace()
+        .map(|word| K::read(word.as_bytes()).ok_or_else(|| Fail::new("no figure")))
+        .try_collect(heap)
 }
 
 // A selection of the options, and its figure.
@@ -72,13 +67,10 @@ type Selected<K> = (Holds, K);
 
 // The highest figure of the selections that keep the holds, or zero.
 fn highest<K: Written>(held: &Holds, selections: &[Selected<K>]) -> K {
-    let mut best = K::zero();
-    for (chosen, own) in selections {
-        if is_kept(held, chosen) && !own.no_higher(best) {
-            best = *own;
-        }
-    }
-    best
+    selections
+        .iter()
+        .filter(|(chosen, _)| is_kept(held, chosen))
+        .fold(K::zero(), |best, (_, own)| greater(best, *own))
 }
 
 // The figure to beat, and the branches opened.
@@ -96,17 +88,16 @@ struct Plant<'a, K> {
     work: &'a mut [K],
 }
 
-impl<K: Written> Plant<'_, K> {
+impl<K: Written + PartialEq + Debug> Plant<'_, K> {
     // Every selection: figure refuses the holds that leave an option free.
-    fn selections(&mut self, heap: Global) -> Result<Vec<Selected<K>>, Fail> {
-        let mut selections = Vec::new(heap);
-        for number in 0..81u64 {
-            let holds = holds_at(number);
-            if let Ok(own) = figure(&self.table, &holds, &self.sheet, self.work) {
-                selections.push((holds, own))?;
-            }
-        }
-        Ok(selections)
+    fn selections(&mut self, heap: Global) -> Result<Vec<Selected<K>>, AllocError> {
+        (0..81)
+            .map(holds_at)
+            .filter_map(|holds| {
+                let own = figure(&self.table, &holds, &self.sheet, self.work).ok()?;
+                Some((holds, own))
+            })
+            .collect(heap)
     }
 
     // Opens a branch, on before off, the lowest free option first.
@@ -119,8 +110,10 @@ impl<K: Written> Plant<'_, K> {
         }
         let Some(variable) = lowest_free(holds) else {
             let own = figure(&self.table, holds, &self.sheet, self.work).ok()?;
-            let best = if own.no_higher(best) { best } else { own };
-            return Some(Walk { best, openings });
+            return Some(Walk {
+                best: greater(best, own),
+                openings,
+            });
         };
         if levels == 0 {
             return None;
@@ -139,13 +132,12 @@ impl<K: Written> Plant<'_, K> {
         order: &O,
         held: &Holds,
         selections: &[Selected<K>],
-        heap: Global,
         case: &impl Display,
     ) -> Result<Found<K>, Fail> {
-        let Ok(found) = select(&self.table, held, &self.sheet, self.work, order) else {
-            return Err(Fail::new(format_args!("select is refused: {case}")));
-        };
-        check_found(rt, found, held, selections, heap, case)?;
+        let found = select(&self.table, held, &self.sheet, self.work, order).map_err(|_| Fail::new(
+            format_args!("select is refused: {case}"),
+        ))?;
+        check_found(rt, found, held, selections, case)?;
         Ok(found)
     }
 
@@ -155,44 +147,29 @@ impl<K: Written> Plant<'_, K> {
         rt: &impl Abort,
         held: &Holds,
         selections: &[Selected<K>],
-        heap: Global,
         case: &impl Display,
     ) -> Result<(), Fail> {
         let lean = format_args!("strongest lean: {case}");
-        self.found_by(rt, &StrongestLean, held, selections, heap, &lean)?;
-        let found = self.found_by(rt, &NumberOrder, held, selections, heap, case)?;
+        self.found_by(rt, &StrongestLean, held, selections, &lean)?;
+        let found = self.found_by(rt, &NumberOrder, held, selections, case)?;
         let start = Walk {
             best: K::zero(),
             openings: 0,
         };
-        let Some(end) = self.open(held, 4, start) else {
-            return Err(Fail::new(format_args!("the walk is refused: {case}")));
-        };
+        let end = self
+            .open(held, 4, start)
+            .ok_or_else(|| Fail::new(format_args!("the walk is refused: {case}")))?;
         assert_eq!(rt; found.openings, end.openings, "openings: {case}");
         Ok(())
     }
 }
 
-fn check_alike<K: Written>(
-    rt: &impl Abort,
-    figure: K,
-    due: K,
-    heap: Global,
-    case: &impl Display,
-) -> Result<(), Fail> {
-    let shown = figure.write(heap)?;
-    let wanted = due.write(heap)?;
-    assert_eq!(rt; shown.as_str(), wanted.as_str(), "{case}");
-    Ok(())
-}
-
 // What select found is the best that the holds allow.
-fn check_found<K: Written>(
+fn check_found<K: Written + PartialEq + Debug>(
     rt: &impl Abort,
     found: Found<K>,
     held: &Holds,
     selections: &[Selected<K>],
-    heap: Global,
     case: &impl Display,
 ) -> Result<(), Fail> {
     assert!(rt; found.openings > 0, "{case}");
@@ -203,34 +180,18 @@ fn check_found<K: Written>(
     };
     assert!(rt; !best.no_higher(K::zero()), "some: {case}");
     assert!(rt; is_kept(held, &selection.holds), "kept: {case}");
-    let Some((chosen, own)) = selections
+    let (chosen, own) = selections
         .iter()
         .find(|(chosen, _)| is_kept(chosen, &selection.holds))
-    else {
-        return Err(Fail::new(format_args!("no selection: {case}")));
-    };
-    check_alike(
-        rt,
-        selection.figure,
-        best,
-        heap,
-        &format_args!("best: {case}"),
-    )?;
-    check_alike(
-        rt,
-        selection.figure,
-        *own,
-        heap,
-        &format_args!("its own: {case}"),
-    )?;
-    let named = show_holds(&selection.holds, heap)?;
-    let options = show_holds(chosen, heap)?;
-    assert_eq!(rt; named.as_str(), options.as_str(), "{case}");
+        .ok_or_else(|| Fail::new(format_args!("no selection: {case}")))?;
+    assert_eq!(rt; selection.figure, best, "best: {case}");
+    assert_eq!(rt; selection.figure, *own, "its own: {case}");
+    assert_eq!(rt; selection.holds, *chosen, "{case}");
     Ok(())
 }
 
 // Select on a sheet, for all 81 ways to hold.
-fn check_sheet<K: Written + Clone>(
+fn check_sheet<K: Written + Clone + PartialEq + Debug>(
     rt: &impl Abort,
     stores: &Stores,
     text: &str,
@@ -251,7 +212,6 @@ fn check_sheet<K: Written + Clone>(
             rt,
             &holds_at(number),
             selections.as_slice(),
-            heap,
             &format_args!("sheet {text}, holds {number}"),
         )?;
     }

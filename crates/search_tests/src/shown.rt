@@ -1,4 +1,5 @@
 //! Holds, figures and answers as short texts.
+// Functions, and no `Display`: the types are other crates'.
 use kinds::written::Written;
 use passes::holds::{Entry, Holds};
 use search::call::Reply;
@@ -11,8 +12,8 @@ use text::refusal::Refusal;
 /// What is held, by rising number: `+1-3` for 1 on and 3 off.
 pub(crate) fn show_holds(holds: &Holds, heap: Global) -> Result<String, AllocError> {
     let mut text = String::new(heap);
-    for variable in 1..65u16 {
-        let sign = match holds.entry(variable) {
+    for (variable, entry) in (1u16..).zip(&holds.entries) {
+        let sign = match entry {
             Entry::Free => continue,
             Entry::On => "+",
             Entry::Off => "-",
@@ -46,7 +47,7 @@ fn show_found<K: Written>(found: Found<K>, heap: Global) -> Result<String, Alloc
     match found.best {
         None => format!(in heap; "none, {openings} opened"),
         Some(selection) => {
-            let figure = selection.figure.write(heap)?;
+            let figure = selection.figure;
             let holds = show_holds(&selection.holds, heap)?;
             format!(in heap; "{figure} by {holds}, {openings} opened")
         }

@@ -2,17 +2,17 @@
 use kinds::written::Written;
 use search::call::Call;
 
-// The word of this number, counted from 0, or an empty one.
-fn word(text: &str, number: usize) -> &str {
-    text.split_whitespace().nth(number).unwrap_or("")
+// The word of this number, counted from 0.
+fn word(text: &str, number: usize) -> Option<&str> {
+    text.split_whitespace().nth(number)
 }
 
 fn variable_of(text: &str) -> Option<u16> {
-    word(text, 1).parse::<u16>().ok()
+    word(text, 1)?.parse::<u16>().ok()
 }
 
 fn side_of(text: &str) -> Option<bool> {
-    match word(text, 2) {
+    match word(text, 2)? {
         "on" => Some(true),
         "off" => Some(false),
         _ => None,
@@ -21,15 +21,15 @@ fn side_of(text: &str) -> Option<bool> {
 
 fn weigh_of<K: Written>(text: &str) -> Option<Call<K>> {
     let variable = variable_of(text)?;
-    let on = K::read(word(text, 2).as_bytes())?;
-    let off = K::read(word(text, 3).as_bytes())?;
+    let on = K::read(word(text, 2)?.as_bytes())?;
+    let off = K::read(word(text, 3)?.as_bytes())?;
     Some(Call::Weigh { variable, on, off })
 }
 
 /// The call that a text says: `hold 1 on`, `release 1`, `weigh 2 3 7`, `trial 1 off`, `figure`,
 /// `bound` or `select`.
 pub(crate) fn call_of<K: Written>(text: &str) -> Option<Call<K>> {
-    match word(text, 0) {
+    match word(text, 0)? {
         "hold" => Some(Call::Hold {
             variable: variable_of(text)?,
             on: side_of(text)?,

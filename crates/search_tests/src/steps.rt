@@ -40,7 +40,7 @@ pub(crate) fn table_of<'a>(stores: &'a Stores, case: &impl Display) -> Result<Ta
         .map_err(|_| Fail::new(format_args!("refused: {case}")))
 }
 
-// What the calls of a study may change, as texts.
+// What the calls of a study may change, as texts: a test that fails shows them as the cases do.
 #[derive(Drop)]
 struct Shown {
     holds: String,
@@ -85,9 +85,9 @@ impl<K: Written> Study<'_, K> {
         case: &impl Display,
     ) -> Result<(), Fail> {
         let (spoken, due) = step;
-        let Some(call) = call_of(spoken) else {
-            return Err(Fail::new(format_args!("no call: call {number}: {spoken}: {case}")));
-        };
+        let call = call_of(spoken).ok_or_else(|| Fail::new(format_args!(
+            "no call: call {number}: {spoken}: {case}"
+        )))?;
         let before = self.show(heap)?;
         let Study {
             table,

@@ -8,7 +8,7 @@ use kinds::value::Tally;
 use parts::stores::{Parts, Room};
 use passes::holds::Entry;
 use passes::places::pair_places;
-use passes::sheet::Sheet;
+use passes::sheet::{LARGEST_SHEET, Sheet};
 use search::call::{Call, Reply};
 use search::day::work_day;
 use search::fault::Fault;
@@ -22,9 +22,8 @@ use table::table::Table;
 use text::fields::NEWLINE;
 use text::record::Variables;
 
-/// How many figures a sheet has for as many variables as a plant may have.
-const SHEET_ROOM: usize = 128;
-
+// Matches, and no error for `?`: what is said of a refused weight text stands behind what is said of
+// the table, and for the other two an error with its conversions would be longer than they are.
 /// What the program prints for a file: what was done on its plant, or why the file is refused.
 pub(crate) fn tell(heap: Global, file: &[u8]) -> Result<String, AllocError>
     ensures { IfOk result (λ s. told (refusal_of file.now) (string_bytes s)) }
@@ -61,7 +60,7 @@ fn accepted(heap: Global, table: &Table, weights: &[u8]) -> Result<String, Alloc
     let options = table.variables.options();
     let chances = chance_count(table);
     let nodes = table.nodes.len();
-    let mut figures = vec![in heap; Tally { count: 1 }; SHEET_ROOM]?;
+    let mut figures = vec![in heap; Tally { count: 1 }; LARGEST_SHEET]?;
     let rest = match weigh_all(table, &mut figures, weights) {
         Ok(()) => {
             let study = Study {
@@ -265,16 +264,15 @@ impl<'a> Study<'a> {
             return Ok(all);
         };
         let first = self.nth(true, 0);
-        for variable in 1..=self.last() {
-            if self.table.has_option(variable) && first != Some(variable) {
-                let on = selection.holds.entry(variable) == Entry::On;
-                all.push(Call::Hold { variable, on })?;
-            }
-        }
+        let others = (1..=self.last())
+            .filter(|v| self.table.has_option(*v))
+            .filter(|v| first != Some(*v));
+        all.extend(others.map(|variable| Call::Hold {
+            variable,
+            on: selection.holds.entry(variable) == Entry::On,
+        }))?;
         all.push(Call::Figure)?;
-        if let Some(variable) = first {
-            all.push(Call::Release { variable })?;
-        }
+        all.extend(first.map(|variable| Call::Release { variable }))?;
         Ok(all)
     }
 }
@@ -313,27 +311,24 @@ fn name_of(variables: &Variables, variable: u16) -> Option<&str> {
     Some(variables.as_slice().get(place)?.name.as_str())
 }
 
-/// The names of the options that are on in a selection.
+/// The names of the options that are on in a selection, if there is one.
 fn names_on(
     heap: Global,
     variables: &Variables,
     selection: Option<Selection<Tally>>,
 ) -> Result<String, AllocError> {
-    let mut names = String::new(heap);
-    if let Some(found) = selection {
-        for (number, variable) in (1..).zip(variables.as_slice()) {
-            if found.holds.entry(number) == Entry::On {
-                if !names.is_empty() {
-                    names.push_str(", ")?;
-                }
-                names.push_str(variable.name.as_str())?;
-            }
-        }
-    }
+    let Some(found) = selection else {
+        return Ok(String::new(heap));
+    };
+    let names: Vec<&str> = (1..)
+        .zip(variables.as_slice())
+        .filter(|(number, _)| found.holds.entry(*number) == Entry::On)
+        .map(|(_, variable)| variable.name.as_str())
+        .collect(heap)?;
     if names.is_empty() {
-        names.push_str("none")?;
+        return String::from_str(heap, "none");
     }
-    Ok(names)
+    names.join(heap, ", ")
 }
 
 /// The selection that an answer gives.

@@ -1,57 +1,45 @@
-use Rattle.std.proofs.Common.{◌≡◌, ◌*◌, true, length, Some, None, sym, ap, ap₂, ◌∙◌, subst, inl, refl, arith}
-use Rattle.std.proofs.lemmas.Bool.{cond-true, cond-false}
-use Rattle.std.proofs.lemmas.List.{get_or_read}
-use Rattle.kinds.specs.Semiring.{greater}
-use Rattle.table.specs.Facts.{Among, about}
-use Rattle.table.specs.Whole.{circuit, roles}
-use Rattle.table.proofs.Numbers.{listed_role}
-use Rattle.passes.specs.Rows.{open_at, lower, lowest}
-use Rattle.passes.proofs.Lowest.{left_more}
+use Rattle.std.proofs.Common.{◌≡◌, ℕ, List, length, map, ap, refl, rules, arith, of_calls, ◌∙◌}
+use Rattle.std.proofs.lemmas.Iterator.{YieldsList-from_slice, YieldsList-from_zip}
+use Rattle.std.proofs.lemmas.Iterator.Adapters.{serves_from_places}
+use Rattle.std.proofs.lemmas.Iterator.Consumers.{YieldsList-at, YieldsList-from_filter}
+use Rattle.kinds.specs.Semiring.{lesser}
+use Rattle.table.specs.Facts.{about}
+use Rattle.table.specs.Whole.{circuit}
+use Rattle.std.proofs.lemmas.Grind.{common_steps}
+use Rattle.passes.specs.Rows.{open_at}
+use Rattle.passes.proofs.Lowest.{pairs_given, of_pair, taken, taken_two, lowest_reduced, read_pair}
+use Rattle.passes.proofs.Chains.{map_given, reduce_given}
 use Rattle.passes.proofs.pair.Step.least.Goals as goal
+use borrow.Author.Tests.{tests}
 
-pub loop-variable-init : goal.loop-variable-init
-loop-variable-init g c =
+pub reduce-requires-clause-can : goal.reduce-requires-clause-can
+reduce-requires-clause-can g c =
     let q = c.args.self.now in
     let R = g.K.Figure.ring in
     let p = open_at q.query.now.holds.now.entries (about (circuit q.query.now.table.now) q.node) in
-    let vs : c.into_iter-variable-iterator.result.a.rest.now ≡ q.options.now = ap (λ i. i.a.rest.now) c.into_iter-variable-iterator.ensures.into_iter_gives ∙ ap (λ i. i.rest.now) c.zip-variable-items.ensures.first ∙ c.iter.ensures.rest in
-    let row : c.into_iter-variable-iterator.result.b.rest.now ≡ c.args.row.now = ap (λ i. i.b.rest.now) c.into_iter-variable-iterator.ensures.into_iter_gives ∙ ap (λ i. i.rest.now) c.zip-variable-items.ensures.second ∙ c.chunks_exact.ensures.rest in
-    let pairs : c.into_iter-variable-iterator.result.b.size ≡ 2 = ap (λ i. i.b.size) c.into_iter-variable-iterator.ensures.into_iter_gives ∙ ap (λ i. i.size) c.zip-variable-items.ensures.second ∙ c.chunks_exact.ensures.size in (
-      (tt, omega arith),
-      tt,
-      record {
-        least = ap₂ (λ r us. lowest R p r None us) row vs;
-        even = ap length row ∙ c.requires ∙ ap (λ us. 2 * length us) (sym vs);
-        pairs = pairs;
-        known = λ v m. (listed_role (roles q.query.now.table.now) true v (subst (Among v) (vs ∙ q.listed) m)).0.0;
-      },
+    let size : c.map.result.iter.iter.b.size ≡ 2 =
+    ap (λ i. i.iter.b.size) c.map.ensures.source ∙ ap (λ i. i.b.size) c.filter.ensures.source ∙ ap (λ i. i.size) c.zip.ensures.second ∙ c.chunks_exact.ensures.size in (
+      ((tt, omega (arith, size)), tt, search of_calls),
+      serves_from_places
+          (YieldsList-at c.map.ensures.source
+          (YieldsList-from_filter _ (λ (z : ℕ × List g.row.K.Denot). p z.0)
+          (YieldsList-at c.filter.ensures.source (YieldsList-from_zip (YieldsList-at c.zip.ensures.first (YieldsList-from_slice q.options.now cc)) (YieldsList-at c.zip.ensures.second (pairs_given R c.args.row.now c.chunks_exact.result c.chunks_exact.ensures.rest c.chunks_exact.ensures.size))))
+          c.filter.ensures.closure (λ x b k e. search (rules, tests))))
+          (λ x k e. search rules)
+          (λ x k l e. let two : length x.1.now ≡ 2 = taken_two R p q.options.now c.args.row.now _ k l e in search (rules, arith)),
     )
 
-pub is_open-requires : goal.is_open-requires
-is_open-requires g c = c.loop-variable.invariant.2.known c.in-Some.variable.now (subst (Among c.in-Some.variable.now) (sym c.in-Some.ensures.steps.0) (inl refl))
-
-pub loop-variable-preserved-then-is_open : goal.loop-variable-preserved-then-is_open
-loop-variable-preserved-then-is_open g c =
-    let s = c.in-Some.ensures.steps in
+pub returns : goal.returns
+returns g c =
+    let q = c.args.self.now in
     let R = g.K.Figure.ring in
-    let l = c.loop-variable.invariant.2 in
-    let p = open_at c.args.self.now.query.now.holds.now.entries (about (circuit c.args.self.now.query.now.table.now) c.args.self.now.node) in
-    let two : length c.in-Some.pair.now ≡ 2 = s.1.1.1 ∙ l.pairs in
-    let on = get_or_read c.in-Some.pair.now 0 _ (omega arith) c.index-pair-0.is R.zero in
-    let off = get_or_read c.in-Some.pair.now 1 _ (omega arith) c.index-pair-1.is R.zero in (
-      (tt, omega (arith, l.pairs, s.1.0)),
-      tt,
-      left_more R p c.args.row.now c.args.self.now.options.now c.loop-variable.best _ _ _ c.in-Some.pair.now _ _ c.in-Some.variable.now _ _ l s.0 s.1.0 s.1.1.0 s.1.1.1
-          (ap Some (c.lower.ensures ∙ ap (lower R c.loop-variable.best) (c.greater.ensures ∙ ap₂ (greater R) on off)) ∙ sym (cond-true _ _ _ (sym c.is_open.ensures ∙ c.if-is_open.true))),
-    )
-
-pub loop-variable-preserved : goal.loop-variable-preserved
-loop-variable-preserved g c =
-    let s = c.in-Some.ensures.steps in
-    let l = c.loop-variable.invariant.2 in
-    let p = open_at c.args.self.now.query.now.holds.now.entries (about (circuit c.args.self.now.query.now.table.now) c.args.self.now.node) in (
-      (tt, omega (arith, l.pairs, s.1.0)),
-      tt,
-      left_more g.K.Figure.ring p c.args.row.now c.args.self.now.options.now c.loop-variable.best _ _ _ c.in-Some.pair.now _ _ c.in-Some.variable.now _ _ l s.0 s.1.0 s.1.1.0 s.1.1.1
-          (sym (cond-false _ _ _ (sym c.is_open.ensures ∙ c.if-is_open.false))),
-    )
+    let p = open_at q.query.now.holds.now.entries (about (circuit q.query.now.table.now) q.node) in
+    reduce_given _ _ _ (lesser R) (λ b d r k e. search rules) (map (of_pair R) (taken R p q.options.now c.args.row.now))
+    (map_given _ _ _ c.map.result.f (of_pair R) (λ z. length z.1 ≡ 2) (λ x r k two e. (search rules, grind (arith, common_steps, read_pair R (x.0.now, x.1.now)))) (taken R p q.options.now c.args.row.now) (λ z. taken_two R p q.options.now c.args.row.now z)
+    (YieldsList-at c.map.ensures.source
+    (YieldsList-from_filter _ (λ (z : ℕ × List g.row.K.Denot). p z.0)
+    (YieldsList-at c.filter.ensures.source (YieldsList-from_zip (YieldsList-at c.zip.ensures.first (YieldsList-from_slice q.options.now cc)) (YieldsList-at c.zip.ensures.second (pairs_given R c.args.row.now c.chunks_exact.result c.chunks_exact.ensures.rest c.chunks_exact.ensures.size))))
+    c.filter.ensures.closure (λ x b k e. search (rules, tests))))
+    refl)
+    c.reduce.result c.reduce.ensures.ran
+    ∙ lowest_reduced R p q.options.now c.args.row.now

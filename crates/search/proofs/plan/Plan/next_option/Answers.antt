@@ -12,12 +12,12 @@ use Rattle.search.specs.Rising.{free_rising}
 use Rattle.search.proofs.Told.{choices_free, choices_placed, told_some}
 use Rattle.search.proofs.Naming.{told_names}
 use Rattle.search.proofs.Turns.{gate_some, option_some}
-use Rattle.search.proofs.choices.next_option.Given as given
-use Rattle.search.proofs.choices.next_option.Goals as goal
-use Rattle.search.proofs.choices.next_option.Goals.{After-list_choices-count}
+use Rattle.search.proofs.plan.Plan.next_option.Given as given
+use Rattle.search.proofs.plan.Plan.next_option.Goals as goal
+use Rattle.search.proofs.plan.Plan.next_option.Goals.{After-list_choices-count}
 
 -- the choices that are listed
-listed : (g : given.Over) (c : After-list_choices-count g) → take (c.list_choices-count.result) c.list_choices-count.new.out ≡ choices (roles c.args.table.now) (circuit c.args.table.now) c.args.holds.now.entries
+listed : (g : given.Over) (c : After-list_choices-count g) → take (c.list_choices-count.result) c.list_choices-count.new.out ≡ choices (roles c.args.self.now.table.now) (circuit c.args.self.now.table.now) c.args.holds.now.entries
 listed g c = c.list_choices-count.ensures.listed
 
 -- some option is free
@@ -26,11 +26,11 @@ some_listed g c l =
     let n : ℕ = c.list_choices-count.result in
     let few = c.list_choices-count.ensures.few in
     let long = c.list_choices-count.auto.out in
-    omega (arith, length-take-le n c.list_choices-count.new.out (omega (arith, variables_few c.args.table.now, few, long)))
+    omega (arith, length-take-le n c.list_choices-count.new.out (omega (arith, variables_few c.args.self.now.table.now, few, long)))
 
 pub pick-requires : goal.pick-requires
 pick-requires g c =
-    let t = c.args.table.now in
+    let t = c.args.self.now.table.now in
     let a = (goal.at.pick-requires g c).After-list_choices-count in
     record {
       some = some_listed g a (omega arith);
@@ -42,11 +42,11 @@ pick-requires g c =
 
 pub returns : goal.returns
 returns g c =
-    let t = c.args.table.now in
+    let t = c.args.self.now.table.now in
     let a = (goal.at.returns g c).After-list_choices-count in
-    let pick = g.O.BranchingOrder.picks c.args.order.now in
+    let pick = g.O.BranchingOrder.picks c.args.self.now.order.now in
     let R = g.K.Figure.ring in
     let part = c.args.part.now in
-    let some = told_names R pick (g.met.O.BranchingOrder.names c.args.order.now) (root_mentions (circuit t)) (roles t) c.args.holds.now.entries part _ (listed g a) (some_listed g a (omega arith)) in
+    let some = told_names R pick (g.met.O.BranchingOrder.names c.args.self.now.order.now) (root_mentions (circuit t)) (roles t) c.args.holds.now.entries part _ (listed g a) (some_listed g a (omega arith)) in
     option_some c.pick.result (omega (arith, c.pick.ensures, some))
     ∙ ap as_option (c.pick.ensures ∙ told_some pick R part _ (some_listed g a (omega arith)) ∙ ap (λ cs. named pick (told R part cs)) (listed g a) ∙ sym (gate_some c.args.levels _ (omega arith)))

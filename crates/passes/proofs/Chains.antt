@@ -1,0 +1,45 @@
+-- What `map` and `reduce` give in a chain, by closures that compute a function. Assumes nothing.
+use Rattle.std.proofs.Common.{◌≡◌, ℕ, ◌<◌, List, [], ◌∷◌, length, get_or, map, Some, None, Option, sym, subst, arith, refl, ap, ◌∙◌, suc}
+use Rattle.std.proofs.lemmas.Iterator.{YieldsList, items_from_drains, maps}
+use Rattle.std.proofs.lemmas.List.{map-id}
+use Rattle.std.specs.Fn.{Called}
+use Rattle.std.specs.Iterator.{AlwaysYields, Drains, DrainsIf, FoldTurn, ReducesItems}
+use Rattle.std.specs.Iterator.Adapters.{map_source, map_callee}
+use Rattle.std.specs.List.{fold, reduce, FoldsTo}
+use Rattle.std.specs.declared.iter.Map.{Map}
+use denote.Param.Members.{Mut}
+
+-- what `reduce` gives by a closure f that computes h
+module _ {A S G : Type 0} (steps : S → Option A → S → Type 0) (g : Mut G (A × (A × Unit {0})) A) (f : G) (h : A → A → A)
+    (gives : (b c r : A) (q : G) → Called g f (b, (c, tt)) r q → (q ≡ f) × (r ≡ h b c)) where
+  folded : (xs : List A) (p q : G × A) → p.0 ≡ f → FoldsTo (FoldTurn g) p xs q → q.1 ≡ fold h p.1 xs
+  folded [] p q e d = sym (ap (λ r. r.1) d)
+  folded (z ∷ zs) p q e d =
+      let turn = gives p.1 z d.0.1 d.0.0 (subst (λ k. Called g k (p.1, (z, tt)) d.0.1 d.0.0) e d.1) in
+      folded zs d.0 q turn.0 d.2 ∙ ap (λ b. fold h b zs) turn.1
+
+  drained : (s : S) (xs : List A) → Drains steps s xs → DrainsIf steps (Unit {0}) s xs
+  drained s xs d = (d.1.0, d.1.1, λ _. (d.0, d.1.2))
+
+  pub reduce_given : {s : S} (all : List A) → YieldsList steps (λ c. c) s all → (r : Option A) → ReducesItems steps g s f r → r ≡ reduce h all
+  reduce_given {s} all road None d = ap (reduce h) (items_from_drains [] (drained s [] d) road)
+  reduce_given {s} all road (Some y) d =
+      ap Some (folded d.1 (f, d.0) (d.2, y) refl d.4) ∙ ap (reduce h) (sym (map-id (d.0 ∷ d.1)) ∙ items_from_drains (d.0 ∷ d.1) (drained s (d.0 ∷ d.1) d.3) road)
+
+-- what `map` gives by a closure f that computes h of the items with P
+module _ {S A B C G : Type 0} (steps : S → Option A → S → Type 0) (v : A → B) (g : Mut G (A × Unit {0}) C) (f : G) (h : B → C) (P : B → Type 0)
+    (gives : (x : A) (r : C) (q : G) → P (v x) → Called g f (x, tt) r q → (q ≡ f) × (r ≡ h (v x))) where
+  mapped : (ys : List B) → ((y : B) (k : ℕ) → k < length ys → y ≡ get_or ys k y → P y) → (s : Map S G) → AlwaysYields steps v (map_source s) ys → map_callee s ≡ f
+      → AlwaysYields (maps steps g) (λ r. r) s (map h ys)
+  mapped [] p s a c = λ r t m. a m.0 (map_source t) m.1
+  mapped (y ∷ ys) p s a c = (
+    λ t m. a.0 (map_source t) m.0,
+    λ r t m.
+        let next = a.1 m.0 (map_source t) m.1 in
+        let turn = gives m.0 r (map_callee t) (subst P (sym next.0) (p y 0 (omega arith) refl)) (subst (λ k. Called g k (m.0, tt) r (map_callee t)) c m.2) in
+        (turn.1 ∙ ap h next.0, mapped ys (λ z k l e. p z (suc k) (omega arith) e) t next.1 turn.0),
+  )
+
+  pub map_given : {s : Map S G} (ys : List B) → ((y : B) (k : ℕ) → k < length ys → y ≡ get_or ys k y → P y) → YieldsList steps v (map_source s) ys → map_callee s ≡ f
+      → YieldsList (maps steps g) (λ r. r) s (map h ys)
+  map_given {s} ys p road c = record { runs = mapped ys p s road.runs c }
