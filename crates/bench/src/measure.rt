@@ -47,6 +47,12 @@ pub(crate) fn holds_of(held: u16) -> Holds {
     holds
 }
 
+/// The bound, or none where the work table is too short.
+fn bound_in<K: Figure>(query: &Query<K>, work: &mut [K]) -> Option<K> {
+    let places = work.get_mut(..pair_places(query.table))?;
+    Some(query.pair_bound(places))
+}
+
 /// The bound, worked out some times over, or none where a store is too short.
 // By the query's parts, since the test that the sheet is long enough is made here.
 pub(crate) fn repeat_bound<K: Figure>(
@@ -62,10 +68,9 @@ pub(crate) fn repeat_bound<K: Figure>(
         sheet,
         holds,
     };
-    let places = work.get_mut(..pair_places(table))?;
     let mut bound = None;
     for _ in 0..repeats {
-        bound = Some(query.pair_bound(places));
+        bound = bound_in(&query, work);
     }
     bound
 }
