@@ -12,6 +12,8 @@ use text::record::{Form, Node};
 /// to be.
 pub const MOST_READ: u64 = 65537;
 
+const _: () = prove!(MOST_READ > 65536);
+
 impl Room {
     /// Room for the largest table of the limits.
     pub fn largest() -> Room
