@@ -1,5 +1,5 @@
 -- Refusals, calls and answers in words, as bytes. Assumes nothing.
-use Rattle.std.specs.Prelude.{ℕ, Bool, cond, List, ◌++◌, Some, None, Ok, Err, codes, decimal, Option}
+use Rattle.std.specs.Prelude.{ℕ, Bool, cond, List, [], ◌++◌, ◌==◌, Some, None, Ok, Err, codes, decimal, Option}
 use Rattle.text.specs.declared.fault.Reason.{Reason}
 use Rattle.text.specs.declared.fault.Reason.TheVariants as reason
 use Rattle.text.specs.declared.fault.Fault.{Fault as TextFault}
@@ -118,3 +118,13 @@ reply_words names (reply.Chosen found) = found_words names found
 abbrev pub answer_words : List ℕ → Answer Tally → List ℕ
 answer_words names (Ok r) = reply_words names r
 answer_words names (Err f) = refusal_words f
+
+-- what a plant is too small for, by how many options and how many chances it has
+
+abbrev pub options_words : ℕ → List ℕ
+options_words n =
+    cond (n == 0) (codes "The plant has no option: none is held or tried.\n")
+    (cond (n == 1) (codes "The plant has no second option: none is tried.\n") [])
+
+abbrev pub chances_words : ℕ → List ℕ
+chances_words n = cond (n == 0) (codes "The plant has no chance: no weight is revised.\n") []

@@ -2,6 +2,7 @@
 ghost use Rattle.std.specs.Prelude.{◌≡◌, IfOk, string_bytes};
 ghost use Rattle.table.specs.Check.{check_says};
 ghost use Rattle.workday.specs.Told.{refused_words, check_refusal, refusal_of, told};
+ghost use Rattle.workday.specs.Words.{options_words, chances_words};
 
 use crate::words::{Answer, AnswerWords, CallWords, RefusalWords};
 use kinds::value::Tally;
@@ -278,7 +279,9 @@ impl<'a> Study<'a> {
 }
 
 /// What is said of a plant with so few options, or nothing.
-fn few_options(options: usize) -> &'static str {
+fn few_options(options: usize) -> &'static str
+    ensures { result.now ≡ options_words options }
+{
     match options {
         0 => "The plant has no option: none is held or tried.\n",
         1 => "The plant has no second option: none is tried.\n",
@@ -287,7 +290,9 @@ fn few_options(options: usize) -> &'static str {
 }
 
 /// What is said of a plant with so few chances, or nothing.
-fn few_chances(chances: usize) -> &'static str {
+fn few_chances(chances: usize) -> &'static str
+    ensures { result.now ≡ chances_words chances }
+{
     match chances {
         0 => "The plant has no chance: no weight is revised.\n",
         _ => "",
