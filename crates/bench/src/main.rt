@@ -1,73 +1,149 @@
-//! Works out bounds of a plant of full size. With a number of repeats as its argument it says how
-//! long each takes.
+//! Reads a plant's table file, with its weight text, from standard input, checks it, bounds it and
+//! selects on it, in both kinds and by both orders. With a task, a number of options held and a number
+//! of repeats as its arguments it says how long that takes.
 #![tactic(auto)]
 
+mod asked;
 mod measure;
-mod plant;
 
+use asked::Asked;
 use kinds::figure::Figure;
+use kinds::value::{Peak, Tally};
 use kinds::written::Written;
-use measure::{holds_of, peak_sheet, repeat_bound, tally_sheet};
-use plant::Plant;
+use measure::{holds_of, repeat_bound, repeat_check, repeat_select};
+use parts::read::MOST_READ;
+use parts::stores::{Parts, Room};
+use passes::sheet::{LARGEST_SHEET, Sheet};
+use search::number_order::NumberOrder;
+use search::order::BranchingOrder;
+use search::strongest_lean::StrongestLean;
+use search::weights::read_weights;
+use std::io;
+use std::io::Read;
 use std::time::Instant;
-use std::{env, io};
 use table::table::Table;
 use text::refusal::RefusalLine;
 
 /// How many options are held in the runs.
-const HELD: &[u16] = &[0, 10];
+const HELD: &[u16] = &[0, 10, 20];
 
 /// The places of the work table: 41 for each of 4,096 nodes.
 const WORK_ROOM: usize = 167_936;
 
-/// The number of repeats that is asked for, if any.
-fn asked(rt: &HostRuntime) -> io::Result<Option<u32>> {
-    Ok(env::args(rt)?.nth(1).and_then(|word| word.parse().ok()))
-}
-
-/// Prints a kind's bounds, and how long each takes if that is asked for.
-fn run<K: Written + Clone>(
+/// Prints the bounds in one kind.
+fn print_bounds<K: Written + Clone>(
     rt: &HostRuntime,
+    asked: &Asked,
     kind: &str,
     table: &Table,
-    sheet: &[K],
-    repeats: Option<u32>,
+    sheet: &Sheet<K>,
+    work: &mut [K],
 ) -> io::Result<()> {
-    let mut work = vec![in rt.alloc(); K::zero(); WORK_ROOM]?;
     for &held in HELD {
-        let holds = holds_of(held);
+        if !asked.has_held(held) {
+            continue;
+        }
+        let holds = holds_of(table, held as usize);
         let start = Instant::now(rt)?;
-        let bound = repeat_bound(table, sheet, &holds, &mut work, repeats.unwrap_or(1));
+        let answer = repeat_bound(table, &holds, sheet, work, asked.count());
         let time = start.elapsed(rt)?;
-        let free = table.variables.options().saturating_sub(held as usize);
-        print!(rt; "{kind}\tfree options {free}\tbound ")?;
-        match bound {
-            Some(figure) => println!(rt; "{figure}")?,
-            None => println!(rt; "none")?,
+        match answer {
+            Ok(bound) => print!(rt; "bound\t{kind}\t{held}\t{bound}")?,
+            Err(fault) => return print!(rt; "{}", RefusalLine(fault)),
         }
-        if let Some(count) = repeats {
-            if let Some(each) = time.checked_div(count) {
-                println!(rt; "\t{count} times\t{} microseconds each", each.as_micros())?;
-            }
+        asked.end_line(rt, time)?;
+    }
+    Ok(())
+}
+
+/// Prints the best selections in one kind, by one order.
+fn print_selections<K: Written + Clone, O: BranchingOrder<K>>(
+    rt: &HostRuntime,
+    asked: &Asked,
+    kind: &str,
+    order: (&str, &O),
+    table: &Table,
+    sheet: &Sheet<K>,
+    work: &mut [K],
+) -> io::Result<()> {
+    let (name, order) = order;
+    for &held in HELD {
+        if !asked.has_held(held) {
+            continue;
         }
+        let holds = holds_of(table, held as usize);
+        let start = Instant::now(rt)?;
+        let answer = repeat_select(table, &holds, sheet, work, order, asked.count());
+        let time = start.elapsed(rt)?;
+        let found = match answer {
+            Ok(found) => found,
+            Err(fault) => return print!(rt; "{}", RefusalLine(fault)),
+        };
+        print!(rt;
+            "select\t{kind} {name}\t{held}\t{} openings, ",
+            found.openings
+        )?;
+        match found.best {
+            Some(best) => print!(rt; "{}", best.figure)?,
+            None => print!(rt; "none")?,
+        }
+        asked.end_line(rt, time)?;
+    }
+    Ok(())
+}
+
+/// Prints what is asked for in figures of one kind.
+fn print_kind<K: Written + Clone>(
+    rt: &HostRuntime,
+    asked: &Asked,
+    kind: &str,
+    table: &Table,
+    weights: &[u8],
+) -> io::Result<()> {
+    let mut figures = vec![in rt.alloc(); K::zero(); LARGEST_SHEET]?;
+    let mut work = vec![in rt.alloc(); K::zero(); WORK_ROOM]?;
+    let mut sheet = Sheet {
+        figures: &mut figures,
+    };
+    if let Err(fault) = read_weights(table, &mut sheet, weights) {
+        return print!(rt; "{}", RefusalLine(fault));
+    }
+    if asked.has_task("bound") {
+        print_bounds(rt, asked, kind, table, &sheet, &mut work)?;
+    }
+    if asked.has_task("select") {
+        let number = ("number", &NumberOrder);
+        print_selections(rt, asked, kind, number, table, &sheet, &mut work)?;
+        let lean = ("lean", &StrongestLean);
+        print_selections(rt, asked, kind, lean, table, &sheet, &mut work)?;
     }
     Ok(())
 }
 
 fn main(rt: HostRuntime) -> io::Result<()> {
-    let repeats = asked(&rt)?;
-    let plant = Plant::new(rt.alloc())?;
-    let nodes = plant.nodes.as_slice();
-    let children = plant.children.as_slice();
-    let table = match Table::check(nodes, children, plant.variables) {
+    let asked = Asked::read(&rt)?;
+    let mut file = Vec::new(rt.alloc());
+    rt.stdin().take(MOST_READ).read_to_end(&mut file)?;
+    let file = file.as_slice();
+    if asked.has_task("read") {
+        let start = Instant::now(&rt)?;
+        let answer = repeat_check(rt.alloc(), file, asked.count())?;
+        let time = start.elapsed(&rt)?;
+        match answer {
+            Ok(nodes) => print!(rt; "read\t\t\t{nodes} nodes")?,
+            Err(fault) => return print!(rt; "{}", RefusalLine(fault)),
+        }
+        asked.end_line(&rt, time)?;
+    }
+    let parts = match Parts::read(rt.alloc(), &Room::largest(), file)? {
+        Ok(parts) => parts,
+        Err(fault) => return print!(rt; "{}", RefusalLine(fault)),
+    };
+    let table = match Table::check(&parts.nodes, &parts.children, parts.contents.variables) {
         Ok(table) => table,
         Err(fault) => return print!(rt; "{}", RefusalLine(fault)),
     };
-    println!(rt; "nodes\t{}", nodes.len())?;
-    println!(rt; "child links\t{}", children.len())?;
-    println!(rt; "options\t{}", table.variables.options())?;
-    let tallies = tally_sheet(rt.alloc())?;
-    run(&rt, "tally", &table, tallies.as_slice(), repeats)?;
-    let peaks = peak_sheet(rt.alloc())?;
-    run(&rt, "peak", &table, peaks.as_slice(), repeats)
+    let weights = parts.weights(file);
+    print_kind::<Tally>(&rt, &asked, "tally", &table, weights)?;
+    print_kind::<Peak>(&rt, &asked, "peak", &table, weights)
 }
