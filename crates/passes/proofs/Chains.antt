@@ -1,5 +1,5 @@
--- What `map` and `reduce` give in a chain, by closures that compute a function. Assumes nothing.
-use Rattle.std.proofs.Common.{◌≡◌, ℕ, ◌<◌, List, [], ◌∷◌, length, get_or, map, Some, None, Option, sym, subst, arith, refl, ap, ◌∙◌, suc}
+-- What `map` and `reduce` give in a chain, and what `fill_with` writes, by closures that compute a function. Assumes nothing.
+use Rattle.std.proofs.Common.{◌≡◌, ℕ, ◌<◌, List, [], ◌∷◌, length, get_or, map, replicate, Some, None, Option, sym, subst, ap₂, arith, refl, ap, ◌∙◌, suc}
 use Rattle.std.proofs.lemmas.Iterator.{YieldsList, items_from_drains, maps}
 use Rattle.std.proofs.lemmas.List.{map-id}
 use Rattle.std.specs.Fn.{Called}
@@ -43,3 +43,9 @@ module _ {S A B C G : Type 0} (steps : S → Option A → S → Type 0) (v : A �
   pub map_given : {s : Map S G} (ys : List B) → ((y : B) (k : ℕ) → k < length ys → y ≡ get_or ys k y → P y) → YieldsList steps v (map_source s) ys → map_callee s ≡ f
       → YieldsList (maps steps g) (λ r. r) s (map h ys)
   map_given {s} ys p road c = record { runs = mapped ys p s road.runs c }
+
+-- what was filled with one value
+pub filled : {S X : Type 0} (R : S → X → S → Type 0) (f : S) (y : X) (xs : List X) (last : S) → ((x : X) (q : S) → R f x q → (q ≡ f) × (x ≡ y)) → FoldsTo R f xs last → xs ≡ replicate (length xs) y
+filled R f y [] last same runs = refl
+filled R f y (x ∷ xs) last same runs =
+    let here = same x runs.0 runs.1 in ap₂ ◌∷◌ here.1 (filled R f y xs last same (subst (λ j. FoldsTo R j xs last) here.0 runs.2))

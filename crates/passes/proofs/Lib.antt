@@ -14,3 +14,5 @@ pub mod PairParts
 pub mod Above
 pub mod Below
 pub mod Chains
+pub mod Sets
+pub mod Closed

@@ -5,5 +5,6 @@ pub mod Marks
 pub mod Steps
 pub mod Ways
 pub mod Rows
+pub mod Open
 pub mod Places
 pub mod Written

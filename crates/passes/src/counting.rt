@@ -1,14 +1,12 @@
 //! The counting pass: a value for every node, for the selection held.
-ghost use Rattle.std.specs.Prelude.{◌≡◌, ◌≤◌, ◌++◌, length, drop};
+ghost use Rattle.std.specs.Prelude.{◌≡◌, refl, ◌≤◌, ◌++◌, length, drop};
 ghost use Rattle.table.specs.Whole.{circuit, roles};
 ghost use Rattle.passes.specs.Holding.{selected};
 ghost use Rattle.passes.specs.Passes.{counts};
-ghost use Rattle.passes.specs.Steps.{value_in};
 ghost use Rattle.passes.specs.Ways.{count_way};
 
 use crate::query::Query;
 use crate::rule::Rule;
-use crate::values::NodeValues;
 use kinds::figure::Figure;
 
 /// A chance's literal counts its weight; an option's one if it is selected so, else zero. A fork
@@ -18,23 +16,15 @@ struct Counting;
 impl<K: Figure> Rule<K> for Counting {
     ghost way = { λ s q. count_way K.ring (roles q.table.now) q.sheet.now (selected q.holds.now.entries) };
 
-    ghost child_in = { λ s q. value_in K.ring };
-
     fn literal(&self, query: &Query<K>, variable: u16, on: bool) -> K {
         query.literal(variable, on, query.holds.is_on(variable) == on)
-    }
-
-    fn truth(&self, _query: &Query<K>) -> K {
-        K::one()
     }
 
     fn join(&self, _query: &Query<K>, _variable: u16, on: K, off: K) -> K {
         on.plus(off)
     }
 
-    fn child(&self, _query: &Query<K>, values: &NodeValues<K>, node: u16) -> K {
-        values.value(node)
-    }
+    ghost truth = { λ s q. refl };
 }
 
 impl<K: Figure> Query<'_, K> {

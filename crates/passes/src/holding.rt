@@ -1,6 +1,7 @@
 //! Holding and releasing options.
 ghost use Rattle.std.specs.Prelude.{◌≡◌, ◌<◌, replicate};
 ghost use Rattle.passes.specs.Holding.{entry as entry_of, is_free, denies as denies_side, selected};
+ghost use Rattle.passes.specs.Open.{FreeSet};
 ghost use Rattle.passes.specs.Marks.{entry_at, with_entry, held};
 
 use crate::holds::{Entry, Holds};
@@ -20,6 +21,15 @@ impl Default for Holds {
         ensures { result.entries ≡ replicate 64 Entry.Free }
     {
         Holds::new()
+    }
+}
+
+impl Entry {
+    /// Whether the variable is not held.
+    fn is_free(self) -> bool
+        ensures { result ≡ is_free self }
+    {
+        self == Entry::Free
     }
 }
 
@@ -82,7 +92,18 @@ impl Holds {
     pub(crate) fn is_free(&self, variable: u16) -> bool
         ensures { result ≡ is_free (entry_at self.now.entries variable) }
     {
-        self.entry(variable) == Entry::Free
+        self.entry(variable).is_free()
+    }
+
+    /// The set of the variables that are not held.
+    pub(crate) fn free_set(&self) -> u64
+        ensures { FreeSet self.now.entries result }
+    {
+        let entries = self.entries;
+        entries
+            .iter()
+            .rev()
+            .fold(0, |set, entry| set << 1 | u64::from(entry.is_free()))
     }
 
     /// Whether a hold contradicts a variable's on (or off) literal.

@@ -1,77 +1,58 @@
 //! The pair pass: a value for every node, and its on and off value for each free option that it
 //! mentions.
-ghost use Rattle.std.specs.Prelude.{◌≡◌, ◌+◌, ◌*◌, ◌<◌, ◌≤◌, true, length, take, drop, false, None};
+ghost use Rattle.std.specs.Prelude.{◌≡◌, ◌+◌, ◌*◌, ◌<◌, ◌≤◌, true, length, map, take, drop, false, None};
+ghost use Rattle.std.specs.List.{list_all};
 ghost use Rattle.table.specs.Circuit.{mentions};
 ghost use Rattle.table.specs.Facts.{about};
+ghost use Rattle.table.specs.Nodes.{shape};
 ghost use Rattle.table.specs.Sound.{options as options_of};
 ghost use Rattle.table.specs.Whole.{circuit, roles};
+ghost use Rattle.passes.specs.Open.{FreeSet, OpenSet};
+ghost use Rattle.passes.specs.Passes.{times};
 ghost use Rattle.passes.specs.Places.{stride, pair_places};
 ghost use Rattle.passes.specs.Rows.{under_in, open_at, side_or_zero, lowest, row_in, value_by, part_in};
-ghost use Rattle.passes.specs.Ways.{side_way};
+ghost use Rattle.passes.specs.Steps.{inside, ranged, readable};
+ghost use Rattle.passes.specs.Ways.{made, side_way};
 ghost use Rattle.passes.specs.Written.{PairsWritten};
 
 use crate::places::stride;
 use crate::plain::Plain;
 use crate::query::Query;
-use crate::rule::Rule;
 use crate::values::NodeValues;
 use kinds::figure::Figure;
 use kinds::order::{greater, lesser};
+use table::sets::contains;
 use table::table::Table;
-use text::record::Role;
+use text::record::{Form, Node, Role};
 
-/// A side of an option, on or off: its literal counts one, the other literal zero. A child that
-/// mentions the option counts the lesser of its value and of its value on that side, which stands at
-/// `place` of its part.
+/// A node's figure with an option on, and with it off.
 #[derive(Clone, Copy)]
-struct Side {
+struct Sides<K> {
+    on: K,
+    off: K,
+}
+
+/// An option, and where its on value stands in a part. Its off value stands behind that.
+#[derive(Clone, Copy)]
+struct Placed {
     variable: u16,
-    on: bool,
     place: usize,
 }
 
-impl<K: Figure> Rule<K> for Side {
-    ghost way = { λ s q. side_way K.ring (roles q.table.now) s.on };
-
-    ghost child_in = { λ s q stride places. under_in K.ring (mentions (circuit q.table.now)) stride places s.variable s.place };
-
-    ghost fits = { λ s stride. s.place < stride };
-
-    fn literal(&self, _query: &Query<K>, _variable: u16, on: bool) -> K {
-        if self.on == on { K::one() } else { K::zero() }
-    }
-
-    fn truth(&self, _query: &Query<K>) -> K {
-        K::zero()
-    }
-
-    fn join(&self, query: &Query<K>, variable: u16, on: K, off: K) -> K {
-        query.join(variable, on, off)
-    }
-
-    fn child(&self, query: &Query<K>, values: &NodeValues<K>, node: u16) -> K {
-        let value = values.value(node);
-        if query.table.does_mention(node as usize, self.variable) {
-            let side = values.places[node as usize * values.stride + self.place];
-            lesser(value, side)
-        } else {
-            value
-        }
-    }
-}
-
 /// The step at one node: the query, its options by rising number, the values of the nodes before
-/// it, and the node's number.
+/// it, the node's number, and the set of the free options that it mentions.
 #[derive(Drop)]
 struct Step<'a, 'b, 'c, K> {
     query: &'a Query<'a, K>,
     options: &'b [u16],
     values: NodeValues<'c, K>,
     node: usize,
+    free: u64,
     ghost listed: { options.now ≡ options_of (roles query.now.table.now) },
     ghost stride: { values.stride ≡ stride (roles query.now.table.now) },
     ghost inside: { node < length query.now.table.now.nodes.now },
     ghost before: { length values.places.now ≡ node * values.stride },
+    ghost set: { OpenSet query.now node free },
 }
 
 impl<K: Figure> Step<'_, '_, '_, K> {
@@ -79,34 +60,101 @@ impl<K: Figure> Step<'_, '_, '_, K> {
     fn is_open(&self, variable: u16) -> bool
         ensures { result ≡ open_at self.now.query.now.holds.now.entries (about (circuit self.now.query.now.table.now) self.now.node) variable }
     {
-        self.query.holds.is_free(variable) && self.query.table.does_mention(self.node, variable)
+        self.query.table.has_variable(variable) && contains(self.free, variable)
+    }
+
+    /// A child's figure under an option on and off: the lesser of its value and of its value on that
+    /// side if it mentions the option, else its value.
+    fn under(&self, option: Placed, child: u16) -> Sides<K>
+        requires place { option.place + 1 < self.now.values.stride }
+        requires inside { inside (length self.now.values.places.now) self.now.values.stride child ≡ true }
+        ensures on { result.on ≡ under_in K.ring (mentions (circuit self.now.query.now.table.now)) self.now.values.stride self.now.values.places.now option.variable option.place child }
+        ensures off { result.off ≡ under_in K.ring (mentions (circuit self.now.query.now.table.now)) self.now.values.stride self.now.values.places.now option.variable (option.place + 1) child }
+    {
+        let value = self.values.value(child);
+        if !self
+            .query
+            .table
+            .does_mention(child as usize, option.variable)
+        {
+            return Sides {
+                on: value,
+                off: value,
+            };
+        }
+        let place = child as usize * self.values.stride + option.place;
+        Sides {
+            on: lesser(value, self.values.places[place]),
+            off: lesser(value, self.values.places[place + 1]),
+        }
+    }
+
+    /// The products of the children's figures under an option.
+    fn product_under(&self, option: Placed, children: &[u16]) -> Sides<K>
+        requires place { option.place + 1 < self.now.values.stride }
+        requires inside { list_all (inside (length self.now.values.places.now) self.now.values.stride) children.now ≡ true }
+        ensures on { result.on ≡ times K.ring (map (under_in K.ring (mentions (circuit self.now.query.now.table.now)) self.now.values.stride self.now.values.places.now option.variable option.place) children.now) }
+        ensures off { result.off ≡ times K.ring (map (under_in K.ring (mentions (circuit self.now.query.now.table.now)) self.now.values.stride self.now.values.places.now option.variable (option.place + 1)) children.now) }
+    {
+        // A loop, as in `NodeValues::product`.
+        let mut on = K::one();
+        let mut off = K::one();
+        for child in children {
+            let sides = self.under(option, *child);
+            on = on.times(sides.on);
+            off = off.times(sides.off);
+        }
+        Sides { on, off }
+    }
+
+    /// A node's on and off value for an option that it mentions: its literal counts one, the other
+    /// literal zero.
+    fn node_sides(&self, option: Placed, node: Node) -> Sides<K>
+        requires place { option.place + 1 < self.now.values.stride }
+        requires ranged { ranged self.now.query.now.table.now.children.now node ≡ true }
+        requires readable { readable (length (roles self.now.query.now.table.now)) (length self.now.values.places.now) self.now.values.stride (shape self.now.query.now.table.now.children.now node) ≡ true }
+        ensures on { result.on ≡ made K.ring (side_way K.ring (roles self.now.query.now.table.now) true) (under_in K.ring (mentions (circuit self.now.query.now.table.now)) self.now.values.stride self.now.values.places.now option.variable option.place) (shape self.now.query.now.table.now.children.now node) }
+        ensures off { result.off ≡ made K.ring (side_way K.ring (roles self.now.query.now.table.now) false) (under_in K.ring (mentions (circuit self.now.query.now.table.now)) self.now.values.stride self.now.values.places.now option.variable (option.place + 1)) (shape self.now.query.now.table.now.children.now node) }
+    {
+        let children = self.query.table.children;
+        let first = node.first as usize;
+        match node.form {
+            Form::Literal { variable: _, on } => Sides {
+                on: if on { K::one() } else { K::zero() },
+                off: if on { K::zero() } else { K::one() },
+            },
+            Form::And => {
+                self.product_under(option, &children[first..first + node.count as usize])
+            }
+            Form::Fork { variable } => {
+                let on = self.under(option, children[first]);
+                let off = self.under(option, children[first + 1]);
+                Sides {
+                    on: self.query.join(variable, on.on, off.on),
+                    off: self.query.join(variable, on.off, off.off),
+                }
+            }
+            Form::True | Form::False => Sides {
+                on: K::zero(),
+                off: K::zero(),
+            },
+        }
     }
 
     /// What stands in the node's part for an option, on and off: zero if there is no such value.
-    fn sides(&self, variable: u16, on_place: usize, off_place: usize) -> (K, K)
-        requires variable { 0 < variable }
-        requires on { on_place < self.now.values.stride }
-        requires off { off_place < self.now.values.stride }
-        ensures on { result.0 ≡ side_or_zero K.ring (mentions (circuit self.now.query.now.table.now)) self.now.values.stride self.now.values.places.now (roles self.now.query.now.table.now) self.now.query.now.holds.now.entries (circuit self.now.query.now.table.now) self.now.node true variable on_place }
-        ensures off { result.1 ≡ side_or_zero K.ring (mentions (circuit self.now.query.now.table.now)) self.now.values.stride self.now.values.places.now (roles self.now.query.now.table.now) self.now.query.now.holds.now.entries (circuit self.now.query.now.table.now) self.now.node false variable off_place }
+    fn sides(&self, option: Placed) -> Sides<K>
+        requires place { option.place + 1 < self.now.values.stride }
+        ensures on { result.on ≡ side_or_zero K.ring (mentions (circuit self.now.query.now.table.now)) self.now.values.stride self.now.values.places.now (roles self.now.query.now.table.now) self.now.query.now.holds.now.entries (circuit self.now.query.now.table.now) self.now.node true option.variable option.place }
+        ensures off { result.off ≡ side_or_zero K.ring (mentions (circuit self.now.query.now.table.now)) self.now.values.stride self.now.values.places.now (roles self.now.query.now.table.now) self.now.query.now.holds.now.entries (circuit self.now.query.now.table.now) self.now.node false option.variable (option.place + 1) }
     {
-        if !self.is_open(variable) {
-            return (K::zero(), K::zero());
+        if self.is_open(option.variable) {
+            self.node_sides(option, self.query.table.nodes[self.node])
+        } else {
+            Sides {
+                on: K::zero(),
+                off: K::zero(),
+            }
         }
-        let on = Side {
-            variable,
-            on: true,
-            place: on_place,
-        };
-        let off = Side {
-            variable,
-            on: false,
-            place: off_place,
-        };
-        (
-            self.query.node_at(&on, &self.values, self.node),
-            self.query.node_at(&off, &self.values, self.node),
-        )
     }
 
     /// Writes the node's on and off value for each option behind the place of its value.
@@ -116,11 +164,10 @@ impl<K: Figure> Step<'_, '_, '_, K> {
     {
         // By index: the places are also those that the children's parts are read at.
         for (j, &variable) in self.options.iter().enumerate() {
-            let on_place = 2 * j + 1;
-            let off_place = 2 * j + 2;
-            let (on, off) = self.sides(variable, on_place, off_place);
-            part[on_place] = on;
-            part[off_place] = off;
+            let place = 2 * j + 1;
+            let sides = self.sides(Placed { variable, place });
+            part[place] = sides.on;
+            part[place + 1] = sides.off;
         }
     }
 
@@ -170,8 +217,9 @@ fn list_options(table: &Table, out: &mut [u16]) -> usize
 
 impl<K: Figure> Query<'_, K> {
     /// Writes a node's part, from those of the nodes before it.
-    fn write_part(&self, options: &[u16], node: usize, places: &[K], part: &mut [K])
+    fn write_part(&self, options: &[u16], free: u64, node: usize, places: &[K], part: &mut [K])
         requires listed { options.now ≡ options_of (roles self.now.table.now) }
+        requires free { FreeSet self.now.holds.now.entries free }
         requires node { node < length self.now.table.now.nodes.now }
         requires part { length part.old ≡ stride (roles self.now.table.now) }
         requires places { length places.now ≡ node * stride (roles self.now.table.now) }
@@ -181,11 +229,18 @@ impl<K: Figure> Query<'_, K> {
             places,
             stride: part.len(),
         };
+        let free = free & self.table.mentions.sets[node];
+        if free == 0 {
+            part.fill_with(|| K::zero());
+            part[0] = self.node_at(&Plain, &values, node);
+            return;
+        }
         let step = Step {
             query: self,
             options,
             values,
             node,
+            free,
         };
         step.write_sides(part);
         part[0] = step.value(&part[1..]);
@@ -198,10 +253,11 @@ impl<K: Figure> Query<'_, K> {
         ensures { PairsWritten K.ring self.now work.old work.new }
     {
         let stride = stride(self.table);
+        let free = self.holds.free_set();
         // By number: what `write_part` asks of a node, and of those before it, goes by its number.
         for node in 0..self.table.nodes.len() {
             let (places, rest) = work.split_at_mut(node * stride);
-            self.write_part(options, node, places, &mut rest[..stride]);
+            self.write_part(options, free, node, places, &mut rest[..stride]);
         }
     }
 

@@ -1,13 +1,11 @@
 //! The plain pass: a value for every node, for holds. A free option counts as it suits best.
-ghost use Rattle.std.specs.Prelude.{◌≡◌, ◌≤◌, ◌++◌, length, drop};
+ghost use Rattle.std.specs.Prelude.{◌≡◌, refl, ◌≤◌, ◌++◌, length, drop};
 ghost use Rattle.table.specs.Whole.{circuit, roles};
 ghost use Rattle.passes.specs.Passes.{plains};
-ghost use Rattle.passes.specs.Steps.{value_in};
 ghost use Rattle.passes.specs.Ways.{joined, plain_way};
 
 use crate::query::Query;
 use crate::rule::Rule;
-use crate::values::NodeValues;
 use kinds::figure::Figure;
 use kinds::order::greater;
 
@@ -18,23 +16,15 @@ pub(crate) struct Plain;
 impl<K: Figure> Rule<K> for Plain {
     ghost way = { λ s q. plain_way K.ring (roles q.table.now) q.sheet.now q.holds.now.entries };
 
-    ghost child_in = { λ s q. value_in K.ring };
-
     fn literal(&self, query: &Query<K>, variable: u16, on: bool) -> K {
         query.literal(variable, on, !query.holds.denies(variable, on))
-    }
-
-    fn truth(&self, _query: &Query<K>) -> K {
-        K::one()
     }
 
     fn join(&self, query: &Query<K>, variable: u16, on: K, off: K) -> K {
         query.join(variable, on, off)
     }
 
-    fn child(&self, _query: &Query<K>, values: &NodeValues<K>, node: u16) -> K {
-        values.value(node)
-    }
+    ghost truth = { λ s q. refl };
 }
 
 impl<K: Figure> Query<'_, K> {

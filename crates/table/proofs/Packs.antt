@@ -12,11 +12,11 @@ use Rattle.table.specs.Sets.{packed, mask}
 use Rattle.table.specs.Masks.{under, nothing, has_bit, apart_masks}
 use Rattle.table.specs.declared.known.NodeSets.{NodeSets}
 
-half : (p : ℕ) (b : Bool) → (p * 2 + cond b 1 0) / 2 ≡ p
+pub half : (p : ℕ) (b : Bool) → (p * 2 + cond b 1 0) / 2 ≡ p
 half p true = omega arith
 half p false = omega arith
 
-low : (p : ℕ) (b : Bool) → (p * 2 + cond b 1 0) % 2 ≡ cond b 1 0
+pub low : (p : ℕ) (b : Bool) → (p * 2 + cond b 1 0) % 2 ≡ cond b 1 0
 low p true = omega arith
 low p false = omega arith
 

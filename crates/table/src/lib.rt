@@ -9,5 +9,5 @@ mod known;
 pub mod mentions;
 mod node;
 pub mod questions;
-mod sets;
+pub mod sets;
 pub mod table;

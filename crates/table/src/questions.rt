@@ -4,7 +4,7 @@ ghost use Rattle.table.specs.Facts.{about};
 ghost use Rattle.table.specs.Sound.{is_option, known};
 ghost use Rattle.table.specs.Whole.{circuit, roles};
 
-use crate::sets::{bit_of, is_known};
+use crate::sets::{contains, is_known};
 use crate::table::Table;
 use text::record::Role;
 
@@ -22,7 +22,7 @@ impl Table<'_> {
     {
         node < self.nodes.len()
             && self.has_variable(variable)
-            && self.mentions.sets[node] & bit_of(variable) != 0
+            && contains(self.mentions.sets[node], variable)
     }
 
     /// Whether a variable is one of the table's options.

@@ -3,7 +3,7 @@ ghost use Rattle.std.specs.Prelude.{◌≡◌, ◌<◌, ◌≤◌, true, length,
 ghost use Rattle.std.specs.List.{list_all};
 ghost use Rattle.table.specs.Sound.{known};
 ghost use Rattle.table.specs.Nodes.{no_node, stretch, roles_of};
-ghost use Rattle.table.specs.Masks.{under, bit, chance_bit, chance_mask, apart_masks, nothing, literal_sets, with_child, with_children};
+ghost use Rattle.table.specs.Masks.{under, bit, has_bit, chance_bit, chance_mask, apart_masks, nothing, literal_sets, with_child, with_children};
 
 use crate::known::NodeSets;
 use text::record::{Form, Node, Role, Variables};
@@ -27,6 +27,14 @@ pub(crate) fn bit_of(variable: u16) -> u64
     ensures { result ≡ bit variable }
 {
     1 << (variable - 1)
+}
+
+/// Whether a set has a variable.
+pub fn contains(set: u64, variable: u16) -> bool
+    requires { (0 < variable) × (variable ≤ 64) }
+    ensures { result ≡ has_bit variable set }
+{
+    set & bit_of(variable) != 0
 }
 
 /// The set of the chances.

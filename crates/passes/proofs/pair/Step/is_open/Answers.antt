@@ -1,12 +1,16 @@
-use Rattle.std.proofs.Common.{refl, sym, ◌∙◌}
+use Rattle.std.proofs.Common.{◌&&◌, sym, ap, ◌∙◌}
+use Rattle.std.proofs.Math.Bool.{and-false}
 use Rattle.table.proofs.Asked.{unknown_variable}
-use Rattle.table.specs.Facts.{about}
-use Rattle.table.specs.Whole.{circuit}
-use Rattle.passes.proofs.Reading.{open_is}
+use Rattle.passes.specs.Holding.{entry, is_free}
 use Rattle.passes.proofs.pair.Step.is_open.Goals as goal
 
-pub returns-then-is_free : goal.returns-then-is_free
-returns-then-is_free g c =
+pub returns-then-has_variable : goal.returns-then-has_variable
+returns-then-has_variable g c = c.contains.ensures ∙ c.args.self.now.set c.args.variable (sym c.has_variable.ensures ∙ c.if-has_variable.true)
+
+pub returns-else-has_variable : goal.returns-else-has_variable
+returns-else-has_variable g c =
     let q = c.args.self.now in
     let t = q.query.now.table.now in
-    c.does_mention.ensures ∙ open_is q.query.now.holds.now.entries (about (circuit t) q.node) c.args.variable (unknown_variable t q.node 0 refl) (sym c.is_free.ensures ∙ c.if-is_free.true)
+    c.if-has_variable.false
+    ∙ sym (ap (λ b. is_free (entry q.query.now.holds.now.entries c.args.variable) && b) (unknown_variable t q.node c.args.variable (sym c.has_variable.ensures ∙ c.if-has_variable.false))
+    ∙ and-false (is_free (entry q.query.now.holds.now.entries c.args.variable)))

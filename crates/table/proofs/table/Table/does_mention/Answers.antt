@@ -1,5 +1,4 @@
-use Rattle.std.proofs.Common.{not, eqb, get_or, sym, ap, ◌∙◌}
-use lib.Bits.{bit_and}
+use Rattle.std.proofs.Common.{sym, ◌∙◌}
 use Rattle.std.proofs.lemmas.Bool.{both_ways, le-ltb}
 use Rattle.table.proofs.Asked.{past_nodes, unknown_variable, bit_says}
 use Rattle.table.proofs.table.Table.does_mention.Goals as goal
@@ -8,8 +7,7 @@ use Rattle.table.proofs.table.Table.does_mention.Goals.{then-node-self, else-nod
 pub returns-then-has_variable : goal.returns-then-has_variable
 returns-then-has_variable c = elim c.if-node-self.branch [
   | then-node-self w ↦ (let known = sym w.has_variable.ensures ∙ sym w.value-is ∙ c.if-has_variable.true in
-      ap (λ b. not (eqb (bit_and (get_or c.args.self.now.mentions.sets c.args.node 0) b) 0)) c.bit_of.ensures
-      ∙ bit_says c.args.self.now c.args.node c.args.variable w.if-node-self.true known)
+      c.contains.ensures ∙ bit_says c.args.self.now c.args.node c.args.variable w.if-node-self.true known)
   | else-node-self w ↦ absurd (both_ways _ (le-ltb _ _ w.if-node-self.false) (sym w.value-is ∙ c.if-has_variable.true))
 ]
 
