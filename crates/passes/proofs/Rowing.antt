@@ -1,10 +1,11 @@
 -- Parts as they lie in the work table, and a row that is written two places at a time. Assumes nothing.
-use Rattle.std.proofs.Common.{◌≡◌, ℕ, zero, suc, ◌+◌, ◌*◌, ◌<◌, Bool, true, false, cond, List, [], ◌∷◌, ◌++◌, length, get_or, take, drop, set, sym, refl, ap, ◌∙◌, ap₂, append_assoc, not-suc-le-zero, suc-mul, zero-mul, arith}
+use Rattle.std.proofs.Common.{◌≡◌, ℕ, zero, suc, ◌+◌, ◌*◌, ◌<◌, Bool, true, false, cond, List, [], ◌∷◌, ◌++◌, length, get_or, None, Option, take, drop, set, sym, refl, ap, ◌∙◌, ap₂, append_assoc, not-suc-le-zero, suc-mul, zero-mul, arith}
 use Rattle.std.proofs.lemmas.List.{length-append, length-set, take_more_set, length-take-le, take_more, get_or-append-add, get_or_append_left, append-nil}
 use Rattle.kinds.specs.Semiring.{Semiring}
 use Rattle.table.specs.Sound.{Roles, options}
 use Rattle.passes.specs.Passes.{Part, no_part, sides, work}
-use Rattle.passes.specs.Rows.{side_place, sides_by}
+use Rattle.passes.specs.Rows.{side_place, sides_by, lowered, lowest}
+use Rattle.passes.proofs.Lowest.{lowest_push}
 
 module _ {F : Type 0} (s : Bool → ℕ → ℕ → F) where
   pub sides_by_length : (j : ℕ) (vs : List ℕ) → length (sides_by s j vs) ≡ 2 * length vs
@@ -37,6 +38,29 @@ module _ {F : Type 0} (s : Bool → ℕ → ℕ → F) (vs : List ℕ) (j : ℕ)
       ∙ ap₂ (λ y z. sides_by s 0 (take j vs) ++ (y ∷ z ∷ [])) one two
       ∙ sym (sides_by_push s 0 j (take j vs) v (let q = length-take-le j vs (omega arith) in omega arith))
       ∙ ap (sides_by s 0) (sym (take_more vs j 0 l))
+
+-- what is kept while the options' places are written: the row and the least so far
+module _ {F : Type 0} (R : Semiring F) (s : Bool → ℕ → ℕ → F) (p : ℕ → Bool) (vs : List ℕ) where
+  pub record Rowed (part : List F) (least : Option F) (j : ℕ) : Type 0 where
+    pub row : take (2 * j) (drop 1 part) ≡ sides_by s 0 (take j vs)
+    pub lowest_is : least ≡ lowest R p (sides_by s 0 (take j vs)) None (take j vs)
+
+  pub rowed_more : (part : List F) (least next : Option F) (j : ℕ) (a b : F) → j < length vs → length part ≡ 2 * length vs + 1 → Rowed part least j
+      → a ≡ s true (get_or vs j 0) (side_place j true) → b ≡ s false (get_or vs j 0) (2 * j + 1 + 1) → next ≡ lowered R least (p (get_or vs j 0)) a b
+      → Rowed (set (set part (2 * j + 1) a) (2 * j + 1 + 1) b) next (j + 1)
+  rowed_more part least next j a b l long kept one two e =
+      let v : ℕ = get_or vs j 0 in
+      let behind : 2 * j + 1 + 1 ≡ side_place j false = omega arith in
+      let off : b ≡ s false v (side_place j false) = two ∙ ap (s false v) behind in
+      let count : 0 + length (take j vs) ≡ j = let q = length-take-le j vs (omega arith) in omega arith in
+      record {
+        row = ap (λ n. take (2 * (j + 1)) (drop 1 (set (set part (2 * j + 1) a) n b))) behind ∙ row_more s vs j l part a b long kept.row one off;
+        lowest_is =
+            e ∙ ap₂ (λ best x. lowered R best (p v) x b) kept.lowest_is one ∙ ap (lowered R (lowest R p (sides_by s 0 (take j vs)) None (take j vs)) (p v) (s true v (side_place j true))) off
+            ∙ sym (lowest_push R p s 0 (take j vs) v (s true v (side_place j true)) (s false v (side_place j false)) None)
+            ∙ ap (λ row. lowest R p row None (take j vs ++ (v ∷ []))) (sym (sides_by_push s 0 j (take j vs) v count))
+            ∙ ap (λ us. lowest R p (sides_by s 0 us) None us) (sym (take_more vs j 0 l));
+      }
 
 module _ {F : Type 0} (R : Semiring F) (rs : Roles) (sheet : List F) where
   sides_length : (p : Part F) (vs : List ℕ) → length (sides R rs sheet p vs) ≡ 2 * length vs

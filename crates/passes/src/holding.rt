@@ -1,7 +1,7 @@
 //! Holding and releasing options.
 ghost use Rattle.std.specs.Prelude.{◌≡◌, ◌<◌, replicate};
 ghost use Rattle.passes.specs.Holding.{entry as entry_of, is_free, denies as denies_side, selected};
-ghost use Rattle.passes.specs.Open.{FreeSet};
+ghost use Rattle.passes.specs.Open.{FreeVariables};
 ghost use Rattle.passes.specs.Marks.{entry_at, with_entry, held};
 
 use crate::holds::{Entry, Holds};
@@ -97,7 +97,7 @@ impl Holds {
 
     /// The set of the variables that are not held.
     pub(crate) fn free_set(&self) -> u64
-        ensures { FreeSet self.now.entries result }
+        ensures { FreeVariables self.now.entries result }
     {
         let entries = self.entries;
         entries

@@ -3,14 +3,14 @@
 ghost use Rattle.std.specs.Prelude.{◌≡◌, ◌+◌, ◌*◌, ◌<◌, ◌≤◌, true, length, map, take, drop, false, None};
 ghost use Rattle.std.specs.List.{list_all};
 ghost use Rattle.table.specs.Circuit.{mentions};
-ghost use Rattle.table.specs.Facts.{about};
+ghost use Rattle.table.specs.Facts.{about, node};
 ghost use Rattle.table.specs.Nodes.{shape};
-ghost use Rattle.table.specs.Sound.{options as options_of};
+ghost use Rattle.table.specs.Sound.{is_option, options as options_of};
 ghost use Rattle.table.specs.Whole.{circuit, roles};
-ghost use Rattle.passes.specs.Open.{FreeSet, OpenSet};
+ghost use Rattle.passes.specs.Open.{FreeOptions, OpenOptions};
 ghost use Rattle.passes.specs.Passes.{times};
 ghost use Rattle.passes.specs.Places.{stride, pair_places};
-ghost use Rattle.passes.specs.Rows.{under_in, open_at, side_or_zero, lowest, row_in, value_by, part_in};
+ghost use Rattle.passes.specs.Rows.{under_in, open_at, lower, lowest, row_in, part_in};
 ghost use Rattle.passes.specs.Steps.{inside, ranged, readable};
 ghost use Rattle.passes.specs.Ways.{made, side_way};
 ghost use Rattle.passes.specs.Written.{PairsWritten};
@@ -52,15 +52,16 @@ struct Step<'a, 'b, 'c, K> {
     ghost stride: { values.stride ≡ stride (roles query.now.table.now) },
     ghost inside: { node < length query.now.table.now.nodes.now },
     ghost before: { length values.places.now ≡ node * values.stride },
-    ghost set: { OpenSet query.now node free },
+    ghost set: { OpenOptions query.now node free },
 }
 
 impl<K: Figure> Step<'_, '_, '_, K> {
     /// Whether the node has values for an option: the option is free, and the node mentions it.
-    fn is_open(&self, variable: u16) -> bool
-        ensures { result ≡ open_at self.now.query.now.holds.now.entries (about (circuit self.now.query.now.table.now) self.now.node) variable }
+    fn is_open(&self, option: u16) -> bool
+        requires { is_option (roles self.now.query.now.table.now) option ≡ true }
+        ensures { result ≡ open_at self.now.query.now.holds.now.entries (about (circuit self.now.query.now.table.now) self.now.node) option }
     {
-        self.query.table.has_variable(variable) && contains(self.free, variable)
+        contains(self.free, option)
     }
 
     /// A child's figure under an option on and off: the lesser of its value and of its value on that
@@ -141,61 +142,50 @@ impl<K: Figure> Step<'_, '_, '_, K> {
         }
     }
 
-    /// What stands in the node's part for an option, on and off: zero if there is no such value.
+    /// The node's on and off value for an option.
     fn sides(&self, option: Placed) -> Sides<K>
         requires place { option.place + 1 < self.now.values.stride }
-        ensures on { result.on ≡ side_or_zero K.ring (mentions (circuit self.now.query.now.table.now)) self.now.values.stride self.now.values.places.now (roles self.now.query.now.table.now) self.now.query.now.holds.now.entries (circuit self.now.query.now.table.now) self.now.node true option.variable option.place }
-        ensures off { result.off ≡ side_or_zero K.ring (mentions (circuit self.now.query.now.table.now)) self.now.values.stride self.now.values.places.now (roles self.now.query.now.table.now) self.now.query.now.holds.now.entries (circuit self.now.query.now.table.now) self.now.node false option.variable (option.place + 1) }
+        ensures on { result.on ≡ made K.ring (side_way K.ring (roles self.now.query.now.table.now) true) (under_in K.ring (mentions (circuit self.now.query.now.table.now)) self.now.values.stride self.now.values.places.now option.variable option.place) (node (circuit self.now.query.now.table.now) self.now.node) }
+        ensures off { result.off ≡ made K.ring (side_way K.ring (roles self.now.query.now.table.now) false) (under_in K.ring (mentions (circuit self.now.query.now.table.now)) self.now.values.stride self.now.values.places.now option.variable (option.place + 1)) (node (circuit self.now.query.now.table.now) self.now.node) }
     {
-        if self.is_open(option.variable) {
-            self.node_sides(option, self.query.table.nodes[self.node])
-        } else {
-            Sides {
-                on: K::zero(),
-                off: K::zero(),
-            }
-        }
+        self.node_sides(option, self.query.table.nodes[self.node])
     }
 
-    /// Writes the node's on and off value for each option behind the place of its value.
-    fn write_sides(&self, part: &mut [K])
+    /// Writes the node's on and off value for each option behind the place of its value, zero where
+    /// there is none. Answers the least, over the free options that the node mentions, of the greater
+    /// of the two.
+    fn write_sides(&self, part: &mut [K]) -> Option<K>
         requires { length part.old ≡ self.now.values.stride }
-        ensures { drop 1 part.new ≡ row_in K.ring (roles self.now.query.now.table.now) self.now.query.now.holds.now.entries (circuit self.now.query.now.table.now) self.now.values.stride self.now.values.places.now self.now.node self.now.options.now }
+        ensures row { drop 1 part.new ≡ row_in K.ring (roles self.now.query.now.table.now) self.now.query.now.holds.now.entries (circuit self.now.query.now.table.now) self.now.values.stride self.now.values.places.now self.now.node self.now.options.now }
+        ensures least { result ≡ lowest K.ring (open_at self.now.query.now.holds.now.entries (about (circuit self.now.query.now.table.now) self.now.node)) (row_in K.ring (roles self.now.query.now.table.now) self.now.query.now.holds.now.entries (circuit self.now.query.now.table.now) self.now.values.stride self.now.values.places.now self.now.node self.now.options.now) None self.now.options.now }
     {
+        if self.free == 0 {
+            part.fill_with(|| K::zero());
+            return None;
+        }
+        let mut least = None;
         // By index: the places are also those that the children's parts are read at.
         for (j, &variable) in self.options.iter().enumerate() {
             let place = 2 * j + 1;
-            let sides = self.sides(Placed { variable, place });
-            part[place] = sides.on;
-            part[place + 1] = sides.off;
+            if self.is_open(variable) {
+                let sides = self.sides(Placed { variable, place });
+                part[place] = sides.on;
+                part[place + 1] = sides.off;
+                least = Some(lower(least, greater(sides.on, sides.off)));
+            } else {
+                part[place] = K::zero();
+                part[place + 1] = K::zero();
+            }
         }
+        least
     }
+}
 
-    /// The least, over the free options that the node mentions, of the greater of the two values in
-    /// its row.
-    fn least(&self, row: &[K]) -> Option<K>
-        requires { length row.now ≡ 2 * length self.now.options.now }
-        ensures { result ≡ lowest K.ring (open_at self.now.query.now.holds.now.entries (about (circuit self.now.query.now.table.now) self.now.node)) row.now None self.now.options.now }
-    {
-        self.options
-            .iter()
-            .zip(row.chunks_exact(2))
-            .filter(|(variable, _)| self.is_open(**variable))
-            .map(|(_, pair)| greater(pair[0], pair[1]))
-            .reduce(|least, figure| lesser(least, figure))
-    }
-
-    /// The node's value: the least over the free options that it mentions, or its plain value.
-    fn value(&self, row: &[K]) -> K
-        requires { length row.now ≡ 2 * length self.now.options.now }
-        ensures { result ≡ value_by K.ring (roles self.now.query.now.table.now) self.now.query.now.sheet.now self.now.query.now.holds.now.entries (circuit self.now.query.now.table.now) self.now.values.stride self.now.values.places.now row.now self.now.node self.now.options.now }
-    {
-        // A match: the closure of an `unwrap_or_else` needs a contract of its own.
-        match self.least(row) {
-            Some(least) => least,
-            None => self.query.node_at(&Plain, &self.values, self.node),
-        }
-    }
+/// The lesser of the least so far and one more figure.
+fn lower<K: Figure>(least: Option<K>, figure: K) -> K
+    ensures { result ≡ lower K.ring least figure }
+{
+    least.map_or(figure, |least| lesser(least, figure))
 }
 
 /// Lists the options by rising number: how many there are.
@@ -219,7 +209,7 @@ impl<K: Figure> Query<'_, K> {
     /// Writes a node's part, from those of the nodes before it.
     fn write_part(&self, options: &[u16], free: u64, node: usize, places: &[K], part: &mut [K])
         requires listed { options.now ≡ options_of (roles self.now.table.now) }
-        requires free { FreeSet self.now.holds.now.entries free }
+        requires free { FreeOptions self.now free }
         requires node { node < length self.now.table.now.nodes.now }
         requires part { length part.old ≡ stride (roles self.now.table.now) }
         requires places { length places.now ≡ node * stride (roles self.now.table.now) }
@@ -229,21 +219,18 @@ impl<K: Figure> Query<'_, K> {
             places,
             stride: part.len(),
         };
-        let free = free & self.table.mentions.sets[node];
-        if free == 0 {
-            part.fill_with(|| K::zero());
-            part[0] = self.node_at(&Plain, &values, node);
-            return;
-        }
         let step = Step {
             query: self,
             options,
             values,
             node,
-            free,
+            free: free & self.table.mentions.sets[node],
         };
-        step.write_sides(part);
-        part[0] = step.value(&part[1..]);
+        let least = step.write_sides(part);
+        part[0] = match least {
+            Some(least) => least,
+            None => self.node_at(&Plain, &step.values, node),
+        };
     }
 
     /// Writes the parts of the nodes, in order, by the list of the options.
@@ -253,7 +240,7 @@ impl<K: Figure> Query<'_, K> {
         ensures { PairsWritten K.ring self.now work.old work.new }
     {
         let stride = stride(self.table);
-        let free = self.holds.free_set();
+        let free = self.table.option_set() & self.holds.free_set();
         // By number: what `write_part` asks of a node, and of those before it, goes by its number.
         for node in 0..self.table.nodes.len() {
             let (places, rest) = work.split_at_mut(node * stride);

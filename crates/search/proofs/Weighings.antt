@@ -1,8 +1,7 @@
 -- The reader of a weight text line by line. Assumes nothing.
-use Rattle.std.proofs.Common.{◌≡◌, ℕ, suc, ◌+◌, ◌*◌, ◌<◌, ◌≤◌, Bool, true, false, cond, not, ◌&&◌, eqb, ltb, leb, List, [], ◌∷◌, ◌++◌, length, take, drop, replicate, Ok, Err, Option, Result, sym, refl, ap, ◌∙◌, subst, ap₂, inl, inr, arith}
+use Rattle.std.proofs.Common.{◌≡◌, ℕ, suc, ◌+◌, ◌*◌, ◌<◌, ◌≤◌, Bool, true, false, cond, not, ◌&&◌, eqb, ltb, leb, List, [], ◌∷◌, ◌++◌, length, take, drop, replicate, Ok, Err, Option, Result, sym, refl, ap, ◌∙◌, ap₂, inl, inr, arith}
 use Rattle.std.proofs.lemmas.List.{length-set, length-drop, length-take-le, length-replicate}
 use Rattle.std.proofs.lemmas.Bool.{cases_Bool, cases_lt, cond-true, cond-false, and_parts, not_from_true, not_from_false, leb-true, ltb-true, lt-ltb, le-ltb}
-use Rattle.std.specs.List.{FoldsTo}
 use Rattle.text.specs.declared.fault.Reason.TheVariants as reason
 use Rattle.text.specs.Format.{Said, overwritten}
 use Rattle.text.specs.Lines.{index_of, lines, BeginsWithLine}
@@ -14,12 +13,7 @@ use Rattle.search.specs.declared.weighing.Weighing.{Weighing}
 use Rattle.search.specs.Day.{weighed}
 use Rattle.search.specs.Weights.{Reading, read, refused, in_text, form_says, of_chance, line_says, is_closed, read_on, weights_say}
 
--- what was filled with one value
-pub filled : {S X : Type 0} (R : S → X → S → Type 0) (f : S) (y : X) (xs : List X) (last : S) → ((x : X) (q : S) → R f x q → (q ≡ f) × (x ≡ y)) → FoldsTo R f xs last → xs ≡ replicate (length xs) y
-filled R f y [] last same runs = refl
-filled R f y (x ∷ xs) last same runs =
-    let here = same x runs.0 runs.1 in ap₂ ◌∷◌ here.1 (filled R f y xs last same (subst (λ j. FoldsTo R j xs last) here.0 runs.2))
-
+-- what was written to the first places
 pub filled_front : {X : Type 0} (n : ℕ) (y : X) (xs new : List X) → n ≤ length xs → new ≡ replicate (length new) y → length new ≡ length (take n xs) → new ++ drop n xs ≡ overwritten (replicate n y) xs
 filled_front n y xs new h ones long =
     let same : length new ≡ n = long ∙ length-take-le n xs h in

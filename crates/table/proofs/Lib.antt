@@ -11,3 +11,4 @@ pub mod Agree
 pub mod Surveys
 pub mod Yes
 pub mod Asked
+pub mod Bits

@@ -1,5 +1,5 @@
 -- What the check computes of a node from the sets of the nodes before it. Assumes nothing.
-use Rattle.std.specs.Prelude.{ℕ, ◌+◌, ◌-◌, ◌*◌, ◌^◌, Bool, true, false, cond, not, ◌&&◌, List, [], ◌∷◌, ◌++◌, map, replicate, length, None, Option, ◌==◌, bit_and, bit_or, nat_lt, slice_index_or}
+use Rattle.std.specs.Prelude.{◌≡◌, ℕ, ◌+◌, ◌-◌, ◌*◌, ◌^◌, Bool, true, false, cond, not, ◌&&◌, List, [], ◌∷◌, ◌++◌, map, replicate, length, None, Option, ◌==◌, bit_and, bit_or, nat_lt, slice_index_or}
 use Rattle.std.specs.List.{list_all}
 use Rattle.text.specs.declared.record.Form.{Form}
 use Rattle.text.specs.declared.record.Form.TheVariants.{Literal, And, Fork, True, False}
@@ -11,7 +11,7 @@ use Rattle.table.specs.declared.fault.Flaw.TheVariants as flaw
 use Rattle.table.specs.declared.known.NodeSets.{NodeSets}
 use Rattle.table.specs.declared.mentions.Mentions.{Mentions}
 use Rattle.table.specs.Circuit.{Shape, lit, all, fork, top, bottom}
-use Rattle.table.specs.Sound.{Roles, known, unless}
+use Rattle.table.specs.Sound.{Roles, known, is_option, unless}
 
 abbrev pub under : ℕ → ℕ → Bool
 under n c = nat_lt c n
@@ -22,6 +22,10 @@ bit v = 2 ^ (v - 1)
 
 abbrev pub has_bit : ℕ → ℕ → Bool
 has_bit v set = not ((bit_and set (bit v)) == 0)
+
+-- the options
+abbrev pub OptionSet : Roles → ℕ → Type 0
+OptionSet rs set = (v : ℕ) → known (length rs) v ≡ true → has_bit v set ≡ is_option rs v
 
 abbrev pub chance_bit : Role → ℕ
 chance_bit role.Option = 0

@@ -1,6 +1,7 @@
 //! What a checked table says of its nodes and variables.
 ghost use Rattle.std.specs.Prelude.{◌≡◌, length};
 ghost use Rattle.table.specs.Facts.{about};
+ghost use Rattle.table.specs.Masks.{OptionSet};
 ghost use Rattle.table.specs.Sound.{is_option, known};
 ghost use Rattle.table.specs.Whole.{circuit, roles};
 
@@ -34,5 +35,16 @@ impl Table<'_> {
                 self.variables.as_slice()[variable as usize - 1].role,
                 Role::Option
             )
+    }
+
+    /// The set of the options.
+    pub fn option_set(&self) -> u64
+        ensures { OptionSet (roles self.now) result }
+    {
+        self.variables
+            .as_slice()
+            .iter()
+            .rev()
+            .fold(0, |set, variable| set << 1 | u64::from(variable.role == Role::Option))
     }
 }

@@ -4,7 +4,7 @@ mod measure;
 mod plants;
 
 use std::env;
-use std::io;
+use std::io::{self, Write};
 use std::path::{Path, PathBuf};
 use std::process::ExitCode;
 
@@ -20,19 +20,37 @@ struct Measured {
     tasks: Vec<(Task, u16, u32)>,
 }
 
+const USAGE: &str = "\
+usage: speed PATH-OF-BENCH
+       speed --show PLANT
+";
+
 fn main() -> ExitCode {
-    let mut arguments = env::args().skip(1);
-    let (Some(bench), None) = (arguments.next(), arguments.next()) else {
-        eprintln!("usage: speed PATH-OF-BENCH");
-        return ExitCode::from(2);
+    let words: Vec<String> = env::args().skip(1).collect();
+    let words: Vec<&str> = words.iter().map(String::as_str).collect();
+    let done = match words.as_slice() {
+        ["--show", name] => show(name),
+        [bench] => compare_all(&PathBuf::from(bench)),
+        _ => {
+            eprint!("{USAGE}");
+            return ExitCode::from(2);
+        }
     };
-    match compare_all(&PathBuf::from(bench)) {
+    match done {
         Ok(()) => ExitCode::SUCCESS,
         Err(error) => {
             eprintln!("speed: {error}");
             ExitCode::FAILURE
         }
     }
+}
+
+/// Prints a plant's file.
+fn show(name: &str) -> io::Result<()> {
+    let plants = measured();
+    let plant = plants.iter().find(|plant| plant.name == name);
+    let plant = plant.ok_or(io::Error::other("there is no such plant"))?;
+    io::stdout().write_all(&plant.file)
 }
 
 fn measured() -> Vec<Measured> {
@@ -50,7 +68,7 @@ fn measured() -> Vec<Measured> {
             ],
         },
         Measured {
-            name: "exact bound",
+            name: "exact-bound",
             file: plants::exact_bound(),
             tasks: vec![
                 (Task::Read, 0, 2_000),
@@ -59,7 +77,7 @@ fn measured() -> Vec<Measured> {
             ],
         },
         Measured {
-            name: "loose bound",
+            name: "loose-bound",
             file: plants::loose_bound(),
             tasks: vec![
                 (Task::Read, 0, 2_000),

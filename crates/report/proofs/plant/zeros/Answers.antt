@@ -1,6 +1,6 @@
 use Rattle.std.proofs.Common.{rules, ◌≡◌, ℕ, List, [], ◌++◌, length, take, replicate, sym, ap, ◌∙◌}
 use Rattle.std.specs.List.{FoldsTo}
-use Rattle.search.proofs.Weighings.{filled}
+use Rattle.passes.proofs.Chains.{filled}
 use Rattle.report.proofs.plant.zeros.Goals as goal
 
 -- what so many calls appended to nothing, if each gives one value

@@ -1,5 +1,6 @@
 use Rattle.std.proofs.Common.{rules}
-use Rattle.search.proofs.Weighings.{filled, filled_front}
+use Rattle.passes.proofs.Chains.{filled}
+use Rattle.search.proofs.Weighings.{filled_front}
 use Rattle.search.proofs.weights.write_ones.Goals as goal
 
 pub returns : goal.returns

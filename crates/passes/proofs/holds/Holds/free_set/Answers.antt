@@ -6,7 +6,7 @@ use Rattle.std.proofs.lemmas.List.{get_or-map}
 use Rattle.table.specs.Masks.{has_bit}
 use Rattle.passes.specs.Holding.{is_free}
 use Rattle.passes.specs.declared.holds.Entry.TheVariants.{Free}
-use Rattle.passes.proofs.Sets.{set_step, fold_bits, has_bit_of_bits}
+use Rattle.table.proofs.Bits.{set_step, fold_bits, has_bit_of_bits}
 use Rattle.passes.proofs.holds.Holds.free_set.Goals as goal
 
 pub returns : goal.returns

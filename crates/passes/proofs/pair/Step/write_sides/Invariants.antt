@@ -1,12 +1,14 @@
-use Rattle.std.proofs.Common.{◌≡◌, ◌*◌, take, drop}
 use Rattle.table.specs.Circuit.{mentions}
+use Rattle.table.specs.Facts.{about}
 use Rattle.table.specs.Whole.{circuit, roles}
-use Rattle.passes.specs.Rows.{side_or_zero, sides_by}
+use Rattle.passes.specs.Rows.{open_at, side_or_zero}
+use Rattle.passes.proofs.Rowing.{Rowed}
 use Rattle.passes.proofs.pair.Step.write_sides.Given as goal
 
 abbrev pub invariant-loop-j : goal.invariant-loop-j
 invariant-loop-j g l =
-    let t = l.self.query.now.table.now in
-    take (2 * l.j) (drop 1 l.part)
-    ≡ sides_by (side_or_zero g.K.Figure.ring (mentions (circuit t)) l.self.values.stride l.self.values.places.now (roles t) l.self.query.now.holds.now.entries (circuit t) l.self.node) 0
-    (take l.j l.self.options.now)
+    let s = l.self in
+    let q = s.query.now in
+    let ss = circuit q.table.now in
+    Rowed g.K.Figure.ring (side_or_zero g.K.Figure.ring (mentions ss) s.values.stride s.values.places.now (roles q.table.now) q.holds.now.entries ss s.node)
+    (open_at q.holds.now.entries (about ss s.node)) s.options.now l.part l.least l.j

@@ -8,6 +8,7 @@ use Rattle.passes.specs.Passes.{pairs, work}
 use Rattle.passes.specs.Rows.{part_in}
 use Rattle.passes.proofs.Pairing.{parts_more, parted_all}
 use Rattle.passes.proofs.Roots.{node_count}
+use Rattle.passes.proofs.Sets.{free_options}
 use Rattle.passes.proofs.query.Query.write_parts.Goals as goal
 
 pub loop-node-preserved : goal.loop-node-preserved
@@ -37,3 +38,6 @@ write_part-requires-clause-part g c =
     let next = mul-le-mul_right c.stride-stride.result c.loop-node-test.true in
     let same = ap₂ (λ n s. n * s) (sym (node_count t)) c.stride-stride.ensures in
     omega (arith, next, same, length-take c.stride-stride.result c.split_at_mut-places.result.1.now, c.stride-stride.ensures, suc-mul c.loop-node.node c.stride-stride.result)
+
+pub write_part-requires-clause-free : goal.write_part-requires-clause-free
+write_part-requires-clause-free g c = free_options c.args.self.now c.option_set.result c.free_set.result c.option_set.ensures c.free_set.ensures
