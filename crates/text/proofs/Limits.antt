@@ -40,9 +40,6 @@ limits_of rooms v n k w r =
 
 pub header_limits : (rooms : Rooms) (fs : List (List ℕ)) (h : Header) → header_says rooms fs ≡ Ok h → Limits rooms h
 unfolding header_says
-header_limits rooms [] h e = never reason.Line h e
-header_limits rooms (a ∷ []) h e = never reason.Line h e
-header_limits rooms (a ∷ b ∷ []) h e = never reason.Line h e
 header_limits rooms (a ∷ b ∷ c ∷ []) h e =
     let p = then_ok (number_field a) _ h e in
     let q = then_ok (number_field b) _ h p.2 in
@@ -50,7 +47,7 @@ header_limits rooms (a ∷ b ∷ c ∷ []) h e =
     let t = provided_ok (within_limits p.0 q.0 s.0) reason.Limit _ h s.2 in
     let u = provided_ok (leb q.0 rooms.nodes && leb s.0 rooms.children) reason.Store _ h t.1 in
     subst (Limits rooms) (same_ok _ _ u.1) (limits_of rooms p.0 q.0 s.0 t.0 u.0)
-header_limits rooms (a ∷ b ∷ c ∷ d ∷ fs) h e = never reason.Line h e
+header_limits rooms fs h e = never reason.Line h e
 
 -- what `map_err` was given, by what it gave
 module _ {T E F : Type 0} (r : Result T E) (q : Result T F) (P : E → F → Type 0) (by : MatchResult r (λ x. q ≡ Ok x) (λ e. IsErrAnd q (P e))) where
