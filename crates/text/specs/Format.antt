@@ -2,7 +2,7 @@
 --
 -- A file is a list of lines, a line a list of fields. Each line is judged by what the lines before it said: first
 -- comes the header, then a line for each variable, then a line for each node.
-use Rattle.std.specs.Prelude.{ℕ, ◌+◌, min, Bool, true, false, cond, not, ◌&&◌, ◌||◌, List, [], ◌∷◌, ◌++◌, map, filter, length, take, drop, replicate, is_some, Some, None, Ok, Err, codes, Option, Result, ◌==◌, nat_le, nat_lt}
+use Rattle.std.specs.Prelude.{◌≡◌, ℕ, ◌+◌, min, Bool, true, false, cond, not, ◌&&◌, ◌||◌, List, [], ◌∷◌, ◌++◌, map, filter, length, take, drop, replicate, is_some, Some, None, Ok, Err, codes, Option, Result, ◌==◌, nat_le, nat_lt}
 use Rattle.std.proofs.Math.Nat.{min-le_right}
 use Rattle.std.specs.List.{list_any, list_all}
 use Rattle.std.specs.Option.{ok_or, option_map, unwrap_or}
@@ -266,6 +266,10 @@ file_says rooms bytes =
     cond (nat_le 1 (length bytes) && nat_le (length bytes) 65536)
     (read_on rooms nothing_yet (lines bytes))
     (record { nodes = []; children = []; answer = Err fault.Length })
+
+-- as many nodes and children were read as the header says
+abbrev pub AsMany : Reading → Contents → Type 0
+AsMany told c = (length told.nodes ≡ c.nodes) × (length told.children ≡ c.children)
 
 -- whether a variable's name has only bytes that may stand in a line
 abbrev pub named_printable : Variable → Bool

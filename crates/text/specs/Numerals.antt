@@ -1,5 +1,5 @@
 -- Numbers as text. Assumes nothing.
-use Rattle.std.specs.Prelude.{ℕ, ◌+◌, ◌-◌, ◌*◌, Bool, cond, not, ◌&&◌, ◌||◌, List, [], ◌∷◌, length, Some, None, Option, ◌==◌, nat_le, slice_index}
+use Rattle.std.specs.Prelude.{◌≡◌, ℕ, ◌+◌, ◌-◌, ◌*◌, ◌≤◌, Bool, cond, not, ◌&&◌, ◌||◌, List, [], ◌∷◌, length, Some, None, decimal, Option, ◌==◌, nat_le, slice_index}
 use Rattle.std.specs.Str.{all_ascii_digits}
 
 -- the number that digits write, behind those that write n
@@ -18,6 +18,10 @@ numeral_shaped most ds = nat_le 1 (length ds) && nat_le (length ds) most && (not
 -- the number that a field writes in at most `most` digits, if it is at most `cap`
 unfoldable pub numeral : ℕ → ℕ → List ℕ → Option ℕ
 numeral most cap ds = cond (numeral_shaped most ds) (digits_upto cap 0 ds) None
+
+-- the field is the text of n, has at most `most` digits, and n is at most `cap`
+abbrev pub IsTextOf : (most cap n : ℕ) → List ℕ → Type 0
+IsTextOf most cap n f = (f ≡ decimal n) × (length f ≤ most) × (n ≤ cap)
 
 -- a number of the table file: at most 65535
 abbrev pub number : List ℕ → Option ℕ
