@@ -2,7 +2,6 @@ use Rattle.std.proofs.Common.{arith, rules}
 use Rattle.text.specs.Numerals.{numeral}
 use Rattle.text.proofs.Decimals.{exact_from}
 use Rattle.text.proofs.numeral.read_numeral.Goals as goal
-use Rattle.text.proofs.numeral.read_numeral.Goals.{in_default-via-then-field-lt2, in_default-via-else-field-lt2+in_default-1}
 
 pub returns-in_default-2-clause-exact : goal.returns-in_default-2-clause-exact
 unfolding numeral
