@@ -5,8 +5,8 @@ use Rattle.std.proofs.lemmas.Bool.{cases_Bool, cases_lt, cond-true, cond-false, 
 use Rattle.std.specs.List.{FoldsTo}
 use Rattle.text.specs.declared.fault.Reason.TheVariants as reason
 use Rattle.text.specs.Format.{Said, overwritten}
-use Rattle.text.specs.Lines.{index_of, lines, BeginsWithLine}
-use Rattle.text.proofs.Cuts.{first_line, no_line}
+use Rattle.text.specs.Lines.{lines, BeginsWithLine}
+use Rattle.text.proofs.Cuts.{index_of, first_line, no_line}
 use Rattle.table.specs.Sound.{Roles, is_option, known}
 use Rattle.search.specs.declared.fault.Fault.{Fault}
 use Rattle.search.specs.declared.fault.Fault.TheVariants.{ShortSheet, WeightLine}
