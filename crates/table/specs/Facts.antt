@@ -87,6 +87,6 @@ pub record Within (vs : Variables) (ns : List Node) : Type 0 where
 abbrev pub Accepts : Variables → List Node → List ℕ → Type 0
 Accepts vs ns cs = Within vs ns × Proper (roles_of vs) (shapes cs ns)
 
--- what that gives of the circuit's meaning: it is deterministic, and a node's truth depends on what it mentions
+-- what that gives: the circuit is deterministic, and a node's truth depends only on the variables that it mentions
 abbrev pub Means : Variables → List Node → List ℕ → Type 0
 Means vs ns cs = Deterministic (shapes cs ns) × LocalTruth (shapes cs ns)
