@@ -1,4 +1,4 @@
--- The kind Peak. Assumes nothing.
+-- The kind Peak: the highest load of any way. Assumes nothing.
 use Rattle.std.specs.Prelude.{◌≡◌, ℕ, ◌+◌, ◌≤◌, min, max, Bool, true, false, ◌⊎◌, nat_le, refl}
 use Rattle.std.proofs.Common.{ap, inl, inr, arith}
 use mathlib.Core.HLevel.{is_prop→PathP}
@@ -12,7 +12,7 @@ use Rattle.kinds.specs.declared.value.Peak.{Peak}
 use Rattle.kinds.specs.declared.value.Peak.TheVariants as peak
 use Rattle.kinds.specs.declared.value.Peak.TheVariants.{Impossible}
 
--- a load of n watts, or the highest load
+-- a load of n watts, or the cap if n is above it
 abbrev pub load : ℕ → Load
 load n = record { watts = min n 4294967295; fits = min-le_right _ _ }
 
@@ -23,23 +23,24 @@ max_fits a b = omega (arith, a.fits, b.fits)
 abbrev pub higher : Load → Load → Load
 higher a b = record { watts = max a.watts b.watts; fits = max_fits a b }
 
--- the greater, where any load is greater than none
+-- the higher load, or the one that is possible
 abbrev pub peak_sum : Peak → Peak → Peak
 peak_sum Impossible q = q
-peak_sum (peak.Load a) Impossible = peak.Load a
+peak_sum p Impossible = p
 peak_sum (peak.Load a) (peak.Load b) = peak.Load (higher a b)
 
--- both loads together
+-- both loads together, impossible if one of them is
 abbrev pub peak_product : Peak → Peak → Peak
-peak_product Impossible q = Impossible
-peak_product (peak.Load a) Impossible = Impossible
 peak_product (peak.Load a) (peak.Load b) = peak.Load (load (a.watts + b.watts))
+peak_product p q = Impossible
 
+-- loads rank as numbers, and impossible ranks below them
 abbrev pub peak_upto : Peak → Peak → Bool
 peak_upto Impossible q = true
-peak_upto (peak.Load a) Impossible = false
+peak_upto p Impossible = false
 peak_upto (peak.Load a) (peak.Load b) = nat_le a.watts b.watts
 
+-- the max-plus semiring of loads up to the cap, with impossible for zero
 abbrev pub peaks : Semiring Peak
 peaks = record { zero = Impossible; one = peak.Load (load 0); sum = peak_sum; product = peak_product; upto = peak_upto }
 

@@ -1,7 +1,7 @@
 -- A commutative semiring with a total preorder: what every kind of figure is. Assumes nothing.
 use Rattle.std.specs.Prelude.{◌≡◌, Bool, true, cond, ◌⊎◌}
 
--- the operations of a kind; `upto a b`: a ranks no higher than b
+-- the operations of a kind of figure; `upto a b` is that a ranks no higher than b
 pub record Semiring (F : Type 0) : Type 0 where
   pub zero : F
   pub one : F
@@ -25,12 +25,10 @@ pub record Laws {F : Type 0} (R : Semiring F) : Type 0 where
   pub sum_mono : (a b c : F) → R.upto a b ≡ true → R.upto (R.sum a c) (R.sum b c) ≡ true
   pub product_mono : (a b c : F) → R.upto a b ≡ true → R.upto (R.product a c) (R.product b c) ≡ true
 
--- that a ranks below b is that b does not rank no higher than a
-
--- b where a ranks below b, else a
+-- the greater of two figures: b if a ranks below b, else a
 abbrev pub greater : {F : Type 0} → Semiring F → F → F → F
 greater R a b = cond (R.upto b a) a b
 
--- b where b ranks below a, else a
+-- the lesser of two figures: b if b ranks below a, else a
 abbrev pub lesser : {F : Type 0} → Semiring F → F → F → F
 lesser R a b = cond (R.upto a b) a b

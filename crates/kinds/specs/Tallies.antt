@@ -1,4 +1,4 @@
--- The kind Tally. Assumes nothing.
+-- The kind Tally: counts of ways. Assumes nothing.
 use Rattle.std.specs.Prelude.{◌≡◌, ℕ, ◌+◌, ◌*◌, ◌≤◌, min, nat_le}
 use Rattle.std.proofs.Common.{ap, mul_comm, arith}
 use mathlib.Core.HLevel.{is_prop→PathP}
@@ -9,10 +9,11 @@ use Rattle.kinds.specs.Semiring.{Semiring, Laws}
 use Rattle.kinds.specs.Saturate.{capped_assoc, capped_distributes, capped_mono, leb_total}
 use Rattle.kinds.specs.declared.value.Tally.{Tally}
 
--- n ways, or the highest count
+-- the count n, or the cap if n is above it
 abbrev pub tally : ℕ → Tally
 tally n = record { count = min n 18446744073709551615; fits = min-le_right _ _ }
 
+-- counts are added and multiplied up to the cap, and rank as numbers
 abbrev pub tallies : Semiring Tally
 tallies = record {
   zero = tally 0;

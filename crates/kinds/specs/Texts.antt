@@ -1,5 +1,5 @@
 -- Figures as text. Assumes nothing.
-use Rattle.std.specs.Prelude.{◌≡◌, ℕ, ◌^◌, ◌<◌, ◌≤◌, false, cond, List, [], ◌∷◌, Some, None, decimal, Option, refl}
+use Rattle.std.specs.Prelude.{◌≡◌, ℕ, ◌^◌, ◌<◌, ◌≤◌, false, cond, List, [], ◌∷◌, Some, None, codes, decimal, Option, refl}
 use Rattle.std.proofs.Common.{sym, ap, ◌∙◌, inl, inr, arith, lit<}
 use Rattle.std.specs.Option.{option_map}
 use Rattle.std.specs.Str.{bytes_eq}
@@ -20,26 +20,26 @@ pub record Exact {F : Type 0} (reading : List ℕ → Option F) (text : F → Li
   pub back : (f : F) → reading (text f) ≡ Some f
   pub only : (s : List ℕ) (f : F) → reading s ≡ Some f → s ≡ text f
 
--- a number of at most 20 digits
+-- a tally's text is a number of at most 20 digits, up to the cap
 abbrev pub tally_reading : List ℕ → Option Tally
 tally_reading s = option_map tally (numeral 20 18446744073709551615 s)
 
 abbrev pub tally_text : Tally → List ℕ
 tally_text t = decimal t.count
 
--- a number of at most 10 digits
+-- a load's text is a number of at most 10 digits, up to the cap
 abbrev pub load_reading : List ℕ → Option Load
 load_reading s = option_map load (numeral 10 4294967295 s)
 
 abbrev pub load_text : Load → List ℕ
 load_text a = decimal a.watts
 
--- the single byte `-`, 45, or a load
+-- a peak's text is `-`, or a load's
 abbrev pub peak_reading : List ℕ → Option Peak
-peak_reading s = cond (bytes_eq s (45 ∷ [])) (Some Impossible) (option_map peak.Load (load_reading s))
+peak_reading s = cond (bytes_eq s (codes "-")) (Some Impossible) (option_map peak.Load (load_reading s))
 
 abbrev pub peak_text : Peak → List ℕ
-peak_text Impossible = 45 ∷ []
+peak_text Impossible = codes "-"
 peak_text (peak.Load a) = load_text a
 
 none_some : {A B : Type 0} (y : A) → None ≡ Some y → B

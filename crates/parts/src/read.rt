@@ -19,27 +19,26 @@ impl Room {
     pub fn largest() -> Room
         ensures { result ≡ largest }
     {
-        let node = Node {
-            form: Form::False,
-            first: 0,
-            count: 0,
-        };
         Room {
             nodes: 4096,
             children: 12288,
-            node,
-            child: 0,
         }
     }
 }
 
 impl Parts {
-    /// A file's parts, so much of the stores as its counts say, or why the file is refused.
+    /// A file's parts, or why the file is refused.
+    #[tactic(auto, using(crate::proofs::Filling::written_front))]
     pub fn read(heap: Global, room: &Room, file: &[u8]) -> Result<Result<Parts, Fault>, AllocError>
         ensures { IfOk result (λ answer. Reads room.now file.now answer) }
     {
-        let mut nodes = vec![in heap; room.node; room.nodes]?;
-        let mut children = vec![in heap; room.child; room.children]?;
+        let unused = Node {
+            form: Form::False,
+            first: 0,
+            count: 0,
+        };
+        let mut nodes = vec![in heap; unused; room.nodes]?;
+        let mut children = vec![in heap; 0; room.children]?;
         let answer = read_table(file, &mut nodes, &mut children);
         Ok(answer.map(|contents| {
             nodes.truncate(contents.nodes as usize);

@@ -1,14 +1,11 @@
 //! What a file is read into.
 use text::record::{Contents, Node};
 
-/// The stores before a file is read: how many node records and child numbers there is room for,
-/// and what stands at each place.
+/// How many node records and child numbers the stores that a file is read into have room for.
 #[derive(Clone, Copy)]
 pub struct Room {
     pub nodes: usize,
     pub children: usize,
-    pub node: Node,
-    pub child: u16,
 }
 
 // The counts in `contents` are the file's own, and the lists are cut to them.

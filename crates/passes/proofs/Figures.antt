@@ -5,8 +5,8 @@ use Rattle.std.proofs.lemmas.Bool.{both_ways, cases_Bool, cases_eq, cond-true, c
 use Rattle.kinds.specs.Semiring.{Semiring, Laws}
 use Rattle.kinds.proofs.Algebra.{sum_zero, product_one, product_zero}
 use Rattle.table.specs.Circuit.{Shape, lit, all, fork, top, bottom, World, upward, same, truth, satisfied}
-use Rattle.table.specs.Count.{put, over, weight, scenario, figure}
-use Rattle.table.specs.Facts.{Among, node, holds, Known, Proper}
+use Rattle.table.specs.Count.{put, over, weight, scenario_weight, figure}
+use Rattle.table.specs.Facts.{Among, node, true_at, Known, Proper}
 use Rattle.table.specs.Sound.{Roles, is_option, chances, sound, verdict}
 use Rattle.table.proofs.Listed.{some_at, some_among}
 use Rattle.table.proofs.Numbers.{Distinct, listed_role, role_listed, chances_distinct}
@@ -76,12 +76,12 @@ module _ {F : Type 0} (R : Semiring F) (laws : Laws R) (sheet : List F) where
 
   -- what `figure` adds up
   abbrev weighed : List Shape → List ℕ → World → F
-  weighed ss vs u = cond (satisfied ss u) (scenario R sheet vs u) R.zero
+  weighed ss vs u = cond (satisfied ss u) (scenario_weight R sheet vs u) R.zero
 
   weighed_more : (v : ℕ) (vs : List ℕ) (b : Bool) (u : World) → u v ≡ b → (t : Bool) →
-      R.product (weight R sheet v b) (cond t (scenario R sheet vs u) R.zero) ≡ cond t (scenario R sheet (v ∷ vs) u) R.zero
-  unfolding scenario
-  weighed_more v vs b u e true = ap (λ t. R.product (weight R sheet v t) (scenario R sheet vs u)) (sym e)
+      R.product (weight R sheet v b) (cond t (scenario_weight R sheet vs u) R.zero) ≡ cond t (scenario_weight R sheet (v ∷ vs) u) R.zero
+  unfolding scenario_weight
+  weighed_more v vs b u e true = ap (λ t. R.product (weight R sheet v t) (scenario_weight R sheet vs u)) (sym e)
   weighed_more v vs b u e false = product_zero laws (weight R sheet v b)
 
   module _ (rs : Roles) (ss : List Shape) (proper : Proper rs ss) where
@@ -97,21 +97,21 @@ module _ {F : Type 0} (R : Semiring F) (laws : Laws R) (sheet : List F) where
         x-at i ∙ made_same R (sums R g) x y (node ss i) below ∙ sym (y-at i))
 
     -- with every variable as in w, a node counts one where it is true
-    truth_solves : (w : World) → Solves R ss (leaf [] w) (λ i. indicator R (holds ss w i))
+    truth_solves : (w : World) → Solves R ss (leaf [] w) (λ i. indicator R (true_at ss w i))
     truth_solves w i = ap (indicator R) (holds_at ss proper.ordered w i) ∙ at (node ss i) refl
       where
-        at : (s : Shape) → node ss i ≡ s → indicator R (truth w (upward (truth w) ss) s) ≡ made R (sums R (leaf [] w)) (λ c. indicator R (holds ss w c)) s
+        at : (s : Shape) → node ss i ≡ s → indicator R (truth w (upward (truth w) ss) s) ≡ made R (sums R (leaf [] w)) (λ c. indicator R (true_at ss w c)) s
         at (lit v on) is = refl
-        at (all cs) is = indicator_every laws (holds ss w) cs
-        at (fork v a b) is = indicator_or laws (holds ss w a) (holds ss w b) (decisions_exclude ss proper.ordered proper.decisions w i v a b is)
+        at (all cs) is = indicator_every laws (true_at ss w) cs
+        at (fork v a b) is = indicator_or laws (true_at ss w a) (true_at ss w b) (decisions_exclude ss proper.ordered proper.decisions w i v a b is)
         at top is = refl
         at bottom is = refl
 
     root_figure : (vs : List ℕ) → Distinct vs → ((v : ℕ) → Among v vs → Among v (chances rs)) → (w : World) (x : ℕ → F)
         → Solves R ss (leaf vs w) x → x (length ss - 1) ≡ over R vs w (weighed ss vs)
-    unfolding over scenario
+    unfolding over scenario_weight
     root_figure [] distinct among w x x-at =
-        one_solution (leaf [] w) x (λ i. indicator R (holds ss w i)) x-at (truth_solves w) (length ss - 1)
+        one_solution (leaf [] w) x (λ i. indicator R (true_at ss w i)) x-at (truth_solves w) (length ss - 1)
         ∙ ap (indicator R) (sym (root_last (truth w) false ss))
     root_figure (v ∷ vs) distinct among w x x-at =
         let chance = among v (inl refl) in

@@ -1,15 +1,14 @@
 -- The root's value in the work table. Assumes nothing.
-use Rattle.std.proofs.Common.{◌≡◌, ℕ, suc, ◌+◌, ◌-◌, ◌*◌, ◌≤◌, true, leb, List, [], ◌∷◌, ◌++◌, map, length, get_or, sym, refl, ap, ◌∙◌, suc-mul, arith}
+use Rattle.std.proofs.Common.{◌≡◌, ℕ, suc, ◌+◌, ◌-◌, ◌*◌, ◌≤◌, Bool, true, false, cond, leb, List, [], ◌∷◌, ◌++◌, map, length, get_or, sym, refl, ap, ◌∙◌, suc-mul, arith}
+use Rattle.std.specs.List.{filter}
 use Rattle.std.proofs.lemmas.List.{get_or_append_left, length-map}
 use Rattle.std.proofs.lemmas.Bool.{and_parts, leb-true}
 use Rattle.table.specs.declared.table.Table.{Table}
 use Rattle.table.specs.Circuit.{root}
 use Rattle.kinds.specs.Semiring.{Semiring}
-use Rattle.text.specs.Format.{one_if_option, listed, options as count_options}
-use Rattle.text.specs.declared.record.Role.{Role}
-use Rattle.text.specs.declared.record.Role.TheVariants as role
+use Rattle.text.specs.Format.{is_option_role, option_count, listed}
 use Rattle.text.specs.declared.record.Variable.{Variable}
-use Rattle.table.specs.Nodes.{shape, is_option_role}
+use Rattle.table.specs.Nodes.{shape}
 use Rattle.table.specs.Sound.{Roles, from, options}
 use Rattle.table.specs.Whole.{circuit, roles}
 use Rattle.passes.specs.Passes.{Part, no_part, work}
@@ -30,19 +29,20 @@ root_in d values rest store n is long some =
     ap (λ xs. get_or xs (n - 1) d) is ∙ get_or_append_left values rest d (n - 1) (omega arith) ∙ ap (λ k. get_or values (k - 1) d) (sym long)
 
 -- as many options are listed as there are
-one_option : (r : Role) (i : ℕ) (rs : Roles) → length (from i true (is_option_role r ∷ rs)) ≡ one_if_option r + length (from (i + 1) true rs)
-one_option role.Option i rs = omega arith
-one_option role.Chance i rs = omega arith
+one_option : {A : Type 0} (b : Bool) (i : ℕ) (rs : Roles) (x : A) (xs : List A) → length (from (i + 1) true rs) ≡ length xs → length (from i true (b ∷ rs)) ≡ length (cond b (x ∷ xs) xs)
+one_option true i rs x xs e = ap suc e
+one_option false i rs x xs e = e
 
-options_from : (vs : List Variable) (i : ℕ) → length (from i true (map (λ v. is_option_role v.role) vs)) ≡ count_options vs
+options_from : (vs : List Variable) (i : ℕ) → length (from i true (map (λ v. is_option_role v.role) vs)) ≡ option_count vs
 options_from [] i = refl
-options_from (v ∷ vs) i = one_option v.role i (map (λ u. is_option_role u.role) vs) ∙ ap (λ n. one_if_option v.role + n) (options_from vs (i + 1))
+options_from (v ∷ vs) i =
+    one_option (is_option_role v.role) i (map (λ u. is_option_role u.role) vs) v (filter (λ u. is_option_role u.role) vs) (options_from vs (i + 1))
 
-pub options_many : (t : Table) → length (options (roles t)) ≡ count_options (listed t.variables)
+pub options_many : (t : Table) → length (options (roles t)) ≡ option_count (listed t.variables)
 options_many t = options_from (listed t.variables) 1
 
 pub few_options : (t : Table) → length (options (roles t)) ≤ 20
-few_options t = omega (arith, options_many t, leb-true (count_options (listed t.variables)) 20 t.few)
+few_options t = omega (arith, options_many t, leb-true (option_count (listed t.variables)) 20 t.few)
 
 -- the root's part, in a work table of parts
 pub last_part : (n stride : ℕ) → 1 ≤ n → (n - 1) * stride + stride ≡ n * stride

@@ -4,7 +4,7 @@ use parts::stores::Room;
 use passes::holds::Holds;
 use passes::places::pair_places;
 use passes::query::Query;
-use plants::stores::{BLANK, Stores};
+use plants::stores::Stores;
 use std::alloc::Global;
 use std::test::Fail;
 
@@ -49,8 +49,6 @@ fn run<K: Figure>(query: &Query<K>, work: &mut [K]) -> Option<Answers<K>> {
 const SMALL: Room = Room {
     nodes: 64,
     children: 64,
-    node: BLANK,
-    child: 0,
 };
 
 /// A file's parts, from small stores.

@@ -1,7 +1,8 @@
 //! What a file is read into.
 ghost use Rattle.std.specs.Prelude.{◌≡◌, true, IfOk, IfErr, Ok, Err};
 ghost use Rattle.std.specs.List.{list_all};
-ghost use Rattle.plants.specs.Parts.{ArePartsOf, AreReadInto};
+ghost use Rattle.plants.specs.Parts.{AreReadInto};
+ghost use Rattle.parts.specs.Parts.{largest};
 ghost use Rattle.text.specs.Format.{listed, named_printable};
 ghost use Rattle.table.specs.Check.{check_says};
 
@@ -10,15 +11,8 @@ use std::alloc::Global;
 use std::test::Fail;
 use table::fault::Fault;
 use table::table::Table;
-use text::record::{Form, Node, Variables};
+use text::record::{Node, Variables};
 use text::refusal::Refusal;
-
-/// A node record before it is written.
-pub const BLANK: Node = Node {
-    form: Form::And,
-    first: 0,
-    count: 0,
-};
 
 // Not `parts::stores::Parts`: of what the file says a test needs the variables alone.
 /// The parts of a table.
@@ -30,16 +24,12 @@ pub struct Stores {
 }
 
 impl Stores {
-    /// A file's parts: so much of the stores as its counts say.
+    /// A file's parts.
     pub fn read(file: &str, heap: Global) -> Result<Stores, Fail>
-        ensures parts { IfOk result (λ s. ArePartsOf file.now s.nodes.items s.children.items s.variables) }
+        ensures parts { IfOk result (λ s. AreReadInto largest file.now s.nodes.items s.children.items s.variables) }
         ensures names { IfOk result (λ s. list_all named_printable (listed s.variables) ≡ true) }
     {
-        let room = Room {
-            node: BLANK,
-            ..Room::largest()
-        };
-        Stores::read_into(file, &room, heap)
+        Stores::read_into(file, &Room::largest(), heap)
     }
 
     /// A file's parts, from stores with this room.

@@ -1,11 +1,9 @@
 -- Lemmas on the printed lines. Assumes nothing.
 use Rattle.std.proofs.Common.{◌≡◌, ℕ, ◌+◌, Bool, true, false, cond, ◌&&◌, List, [], ◌∷◌, ◌++◌, IfOk, Some, codes, decimal, Result, sym, refl, ap, ◌∙◌, append_assoc}
 use Rattle.std.proofs.lemmas.Result.{IfOk-weaker}
-use Rattle.text.specs.Format.{spelled}
-use Rattle.text.specs.Printed.{fields_onto, text_of}
-use Rattle.text.specs.Shown.{PlainNames}
+use Rattle.text.specs.Format.{is_option_role, spelled}
+use Rattle.text.specs.Printed.{fields_onto, text_of, PlainNames}
 use Rattle.text.specs.declared.record.Variable.{Variable}
-use Rattle.table.specs.Nodes.{is_option_role}
 use Rattle.passes.specs.Holding.{Entries, selected}
 use Rattle.search.specs.declared.found.Found.{Found}
 use Rattle.search.specs.declared.found.Selection.{Selection}

@@ -7,7 +7,7 @@ use Rattle.text.specs.Format.{listed}
 use Rattle.text.specs.Printed.{Lines, text_of}
 use Rattle.text.specs.declared.record.Contents.{Contents}
 use Rattle.text.specs.declared.record.Node.{Node}
-use Rattle.parts.specs.Parts.{ArePartsOf, largest, reading as read_from, nodes_of, children_of}
+use Rattle.parts.specs.Parts.{ArePartsOf, largest, read_from}
 use Rattle.parts.specs.declared.stores.Parts.{Parts}
 use Rattle.table.specs.Check.{check_says}
 use Rattle.table.specs.Whole.{circuit}
@@ -100,7 +100,7 @@ says_of P ls ms (Err (NoMemory m)) p e h = tt
 
 module _ {F : Type 0} (R : Semiring F) (text : F → List ℕ) (pick : Order F) (reading : List ℕ → Option F) (file : List ℕ) (p : Parts) (a : ArePartsOf largest file p) where
   abbrev rest : Contents → Lines
-  rest c = checked R text pick reading c.variables (nodes_of largest file c) (children_of largest file c) (drop c.weights file)
+  rest c = checked R text pick reading c.variables (read_from largest file).nodes (read_from largest file).children (drop c.weights file)
 
   read_file : plant_report R text pick reading file ≡ checked R text pick reading p.contents.variables p.nodes.items p.children.items (drop p.contents.weights file)
   read_file =

@@ -18,7 +18,7 @@ use Rattle.search.specs.Study.{answered, bound_tests}
 use Rattle.search.specs.Weights.{weights_say}
 use Rattle.search.specs.declared.fault.Fault.{Fault}
 use Rattle.search.specs.declared.fault.Fault.TheVariants.{Table}
-use Rattle.parts.specs.Parts.{largest, reading as read_from, nodes_of, children_of}
+use Rattle.parts.specs.Parts.{largest, read_from}
 use Rattle.report.specs.Report.{refusal, report_of}
 
 -- the figures of the sheet, and of the work table
@@ -63,4 +63,4 @@ module _ {F : Type 0} (R : Semiring F) (text : F → List ℕ) (pick : Order F) 
     abbrev pub plant_report : List ℕ → Lines
     plant_report file =
         unless_refused (λ f. Table (Text f)) (read_from largest file).answer (λ c.
-        checked c.variables (nodes_of largest file c) (children_of largest file c) (drop c.weights file))
+        checked c.variables (read_from largest file).nodes (read_from largest file).children (drop c.weights file))

@@ -1,9 +1,8 @@
 -- The text that a program prints, as bytes. Assumes nothing.
 use Rattle.std.specs.Prelude.{ℕ, ◌+◌, cond, ◌&&◌, List, [], ◌∷◌, ◌++◌, Some, None, codes, decimal, Option}
-use Rattle.text.specs.Format.{spelled}
+use Rattle.text.specs.Format.{is_option_role, spelled}
 use Rattle.text.specs.Printed.{Lines, refusal_fields}
 use Rattle.text.specs.declared.record.Variable.{Variable}
-use Rattle.table.specs.Nodes.{is_option_role}
 use Rattle.passes.specs.Holding.{Entries, selected}
 use Rattle.search.specs.Faults.{fault_number, fault_place}
 use Rattle.search.specs.declared.fault.Fault.{Fault}

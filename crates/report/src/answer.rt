@@ -1,9 +1,7 @@
 //! The lines of the bound and of the best selection.
 ghost use Rattle.std.specs.Prelude.{◌≡◌, ◌<◌, ◌&&◌, [], ◌∷◌, IfOk, string_bytes};
-ghost use Rattle.text.specs.Format.{listed};
-ghost use Rattle.text.specs.Printed.{text_of};
-ghost use Rattle.text.specs.Shown.{PlainNames};
-ghost use Rattle.table.specs.Nodes.{is_option_role};
+ghost use Rattle.text.specs.Format.{is_option_role, listed};
+ghost use Rattle.text.specs.Printed.{text_of, PlainNames};
 ghost use Rattle.passes.specs.Holding.{selected};
 ghost use Rattle.report.specs.Report.{behind_tabs, names_on, selection_line, report_of};
 

@@ -1,8 +1,7 @@
 //! What a program prints for a plant's file.
 ghost use Rattle.std.specs.Prelude.{◌≡◌, replicate, IfOk, string_bytes};
 ghost use Rattle.text.specs.Format.{listed};
-ghost use Rattle.text.specs.Printed.{text_of};
-ghost use Rattle.text.specs.Shown.{PlainNames};
+ghost use Rattle.text.specs.Printed.{text_of, PlainNames};
 ghost use Rattle.table.specs.Whole.{circuit};
 ghost use Rattle.report.specs.Plant.{sheet_room, work_room, weighed, plant_report};
 ghost use Rattle.report.specs.Stops.{Says};

@@ -1,11 +1,11 @@
 -- A day is answered as worked out, and in no other way. Assumes nothing.
-use Rattle.std.specs.List.{list_all}
+use Rattle.std.specs.List.{list_all, range_with_len}
 use Rattle.std.proofs.Common.{◌≡◌, ℕ, zero, suc, ◌+◌, ◌-◌, ◌<◌, ◌≤◌, Bool, true, false, not, ◌&&◌, eqb, ltb, ◌⊎◌, List, [], ◌∷◌, length, get_or, replicate, Some, None, Ok, Err, Option, sym, refl, ap, ◌∙◌, ap₂, inl, inr, arith}
 use Rattle.std.proofs.lemmas.Bool.{true≢false, false≢true, cases_Bool, cond_both, and_parts, not-true, ltb-true}
 use Rattle.kinds.specs.Semiring.{Semiring, Laws}
 use Rattle.table.specs.Circuit.{Shape}
 use Rattle.table.specs.Facts.{Among}
-use Rattle.table.specs.Sound.{Roles, is_option, options, sound, verdict, up_to}
+use Rattle.table.specs.Sound.{Roles, is_option, options, sound, verdict}
 use Rattle.table.proofs.Listed.{every_at, some_at, some_among}
 use Rattle.passes.specs.Holding.{Entries, entry, is_free}
 use Rattle.passes.specs.Marks.{with_entry, held}
@@ -182,13 +182,13 @@ tidy_with rs h v e option tidy u low o = ap is_free (entry_apart h v u e low (λ
 
 none_stray : (rs : Roles) (h : Entries) → Tidy rs h → (stray_hold rs h).0 ≡ false
 none_stray rs h tidy = elim (cases_Bool (stray_hold rs h).0) [
-  | inl t ↦ absurd (let s = some_at (λ v. not (is_option rs v) && not (is_free (entry h v))) (up_to 1 (length h)) t in
+  | inl t ↦ absurd (let s = some_at (λ v. not (is_option rs v) && not (is_free (entry h v))) (range_with_len 1 (length h)) t in
       let both = and_parts (not (is_option rs s.0)) _ s.2 in
       true≢false (sym both.1 ∙ ap not (tidy s.0 (low 1 (length h) s.0 s.1) (not-true _ both.0))))
   | inr f ↦ f
 ]
   where
-    low : (i n v : ℕ) → Among v (up_to i n) → i ≤ v
+    low : (i n v : ℕ) → Among v (range_with_len i n) → i ≤ v
     low i zero v m = absurd m
     low i (suc n) v (inl e) = omega arith
     low i (suc n) v (inr m) = let l = low (i + 1) n v m in omega arith

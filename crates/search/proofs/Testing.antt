@@ -1,7 +1,7 @@
 -- What a test answers, and tests of all variables at once. Assumes nothing.
 use Rattle.std.proofs.Common.{◌≡◌, ℕ, suc, ◌+◌, ◌-◌, ◌<◌, Bool, true, false, cond, ◌&&◌, ◌||◌, [], ◌∷◌, length, get_or, Some, None, Ok, Err, Result, sym, refl, ap, ◌∙◌, ap₂, add-zero, zero-add, arith}
 use Rattle.std.specs.List.{list_any, range_with_len, enumerate_from}
-use Rattle.table.specs.Sound.{Roles, is_option, from, options, up_to}
+use Rattle.table.specs.Sound.{Roles, is_option, from, options}
 use Rattle.table.proofs.Numbers.{role_at}
 use Rattle.passes.specs.Holding.{Entries, entry, is_free}
 use Rattle.passes.specs.Marks.{entry_at}
@@ -28,7 +28,7 @@ passes t r is e = by t.0 (sym is ∙ e)
 
 -- a test of the entries xs, which are those of h behind the first i
 any_entry : (q : ℕ → Entry → Bool) (h : Entries) (i : ℕ) (xs : Entries) → ((k : ℕ) → get_or xs k Free ≡ get_or h (i + k) Free)
-    → list_any (λ p. q (p.0 + 1) p.1) (enumerate_from i xs) ≡ list_any (λ v. q v (entry h v)) (up_to (i + 1) (length xs))
+    → list_any (λ p. q (p.0 + 1) p.1) (enumerate_from i xs) ≡ list_any (λ v. q v (entry h v)) (range_with_len (i + 1) (length xs))
 any_entry q h i [] e = refl
 any_entry q h i (x ∷ xs) e =
     let at : i + 0 ≡ i + 1 - 1 = omega arith in
@@ -36,7 +36,7 @@ any_entry q h i (x ∷ xs) e =
     (any_entry q h (i + 1) xs (λ k. e (suc k) ∙ ap (λ n. get_or h n Free) (let z : i + suc k ≡ i + 1 + k = omega arith in z)))
 
 pub any_variable : (q : ℕ → Entry → Bool) (h : Entries)
-    → list_any (λ p. q (p.0 + 1) p.1) (enumerate_from 0 h) ≡ list_any (λ v. q v (entry h v)) (up_to 1 (length h))
+    → list_any (λ p. q (p.0 + 1) p.1) (enumerate_from 0 h) ≡ list_any (λ v. q v (entry h v)) (range_with_len 1 (length h))
 any_variable q h = any_entry q h 0 h (λ k. ap (λ n. get_or h n Free) (sym (zero-add k)))
 
 -- a test of the options among the variables from i on, whose roles are rs

@@ -4,8 +4,8 @@ use Rattle.std.proofs.lemmas.List.{length-set, length-drop, length-take-le, leng
 use Rattle.std.proofs.lemmas.Bool.{cases_Bool, cases_lt, cond-true, cond-false, and_parts, not_from_true, not_from_false, leb-true, ltb-true, lt-ltb, le-ltb}
 use Rattle.text.specs.declared.fault.Reason.TheVariants as reason
 use Rattle.text.specs.Format.{Said, overwritten}
-use Rattle.text.specs.Lines.{index_of, lines, BeginsWithLine}
-use Rattle.text.proofs.Cuts.{first_line, no_line}
+use Rattle.text.specs.Lines.{lines, BeginsWithLine}
+use Rattle.text.proofs.Cuts.{index_of, first_line, no_line}
 use Rattle.table.specs.Sound.{Roles, is_option, known}
 use Rattle.search.specs.declared.fault.Fault.{Fault}
 use Rattle.search.specs.declared.fault.Fault.TheVariants.{ShortSheet, WeightLine}

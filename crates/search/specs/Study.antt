@@ -1,8 +1,8 @@
 -- The calls of a study: which refusals can meet them, and what follows. Assumes nothing.
 use Rattle.std.specs.Prelude.{ℕ, ◌*◌, Bool, cond, not, ◌&&◌, List, [], ◌∷◌, length, Some, None, Ok, Err, Option, Result, nat_lt}
-use Rattle.std.specs.List.{list_any}
+use Rattle.std.specs.List.{list_any, range_with_len}
 use Rattle.table.specs.Circuit.{Shape}
-use Rattle.table.specs.Sound.{Roles, is_option, options, known, up_to}
+use Rattle.table.specs.Sound.{Roles, is_option, options, known}
 use Rattle.passes.specs.Holding.{Entries, entry, is_free}
 use Rattle.passes.specs.Marks.{entry_at}
 use Rattle.passes.specs.Places.{pair_places}
@@ -45,7 +45,7 @@ module _ (rs : Roles) where
 
   -- a variable is held that is not an option
   abbrev pub stray_hold : Entries → Bool × Fault
-  stray_hold h = (list_any (λ v. not (is_option rs v) && not (is_free (entry h v))) (up_to 1 (length h)), StrayHold)
+  stray_hold h = (list_any (λ v. not (is_option rs v) && not (is_free (entry h v))) (range_with_len 1 (length h)), StrayHold)
 
   abbrev pub no_option : ℕ → Bool × Fault
   no_option v = (not (is_option rs v), NoOption v)

@@ -13,17 +13,17 @@ use Rattle.text.specs.declared.record.Node.{Node}
 use Rattle.table.specs.declared.fault.Flaw.{Flaw}
 use Rattle.table.specs.declared.fault.Flaw.TheVariants as flaw
 use Rattle.table.specs.Circuit.{Shape, lit, all, fork, top, bottom, Vars, mention, mentions}
-use Rattle.table.specs.Sound.{Roles, known, none, is_leaf, has_leaf, unless, flaw_at}
+use Rattle.table.specs.Sound.{Roles, known, none, is_literal, has_literal, unless, flaw_at, is_below}
 use Rattle.table.specs.Nodes.{shape_by, shape, shapes}
 use Rattle.table.specs.Sets.{mask}
-use Rattle.table.specs.Masks.{under, nothing, bit, has_bit, chance_mask, apart_masks, blank, literal_sets, with_child, with_children, and_flaw, fork_flaw, flaw_by, sets_by}
+use Rattle.table.specs.Masks.{nothing, bit, has_bit, chance_mask, apart_masks, no_record, literal_sets, with_child, with_children, and_flaw, fork_flaw, flaw_by, sets_by}
 use Rattle.table.specs.declared.known.NodeSets.{NodeSets}
 use Rattle.table.proofs.Packs.{packed_one, packed_or, mask_none, has_bit_is, apart_is}
 use Rattle.table.proofs.Chances.{even_is}
 
 -- the variables whose literal that is on (or off) a node has
-abbrev pub leaf_set : Roles → List Shape → Bool → Shape → ℕ
-leaf_set rs ss b s = mask (length rs) (λ v. has_leaf ss v b s)
+abbrev pub literals_of : Roles → List Shape → Bool → Shape → ℕ
+literals_of rs ss b s = mask (length rs) (λ v. has_literal ss v b s)
 
 -- three sets of variables
 abbrev sets : ℕ → Vars → Vars → Vars → NodeSets
@@ -34,7 +34,7 @@ same_sets n m a b m' a' b' p q r = λ i. sets n (λ x. p x i) (λ x. q x i) (λ 
 
 -- the sets of a node, by what it mentions
 abbrev pub sets_with : Roles → List Shape → Vars → Shape → NodeSets
-sets_with rs ss m s = record { mentions = mask (length rs) m; on = leaf_set rs ss true s; off = leaf_set rs ss false s }
+sets_with rs ss m s = record { mentions = mask (length rs) m; on = literals_of rs ss true s; off = literals_of rs ss false s }
 
 -- the sets of node c
 abbrev pub sets_at : Roles → List Shape → ℕ → NodeSets
@@ -64,8 +64,8 @@ literal_set n x false = sym (mask_none n) ∙ ap (mask n) (fun_ext (λ y. sym (a
 module _ (rs : Roles) (ss : List Shape) (i : ℕ) (before : List NodeSets) (known_is : Known rs ss i before) where
   and_same : (cs : List ℕ) → and_flaw before cs ≡ flaw_at rs ss (mentions ss) i (all cs)
   and_same cs =
-      ap (λ k. unless (list_all (under k) cs) flaw.Order (unless (apart_masks 0 before cs) flaw.Shared None)) known_is.size
-      ∙ unless_same (list_all (under i) cs) flaw.Order _ _ (λ t.
+      ap (λ k. unless (list_all (is_below k) cs) flaw.Order (unless (apart_masks 0 before cs) flaw.Shared None)) known_is.size
+      ∙ unless_same (list_all (is_below i) cs) flaw.Order _ _ (λ t.
       ap (λ b. unless b flaw.Shared None) (apart_is (length rs) i (mentions ss) before (λ c l. ap (λ s. s.mentions) (known_is.are c l)) cs t))
 
   fork_same : (v a b : ℕ) → fork_flaw (length rs) (chance_mask rs) before v a b ≡ flaw_at rs ss (mentions ss) i (fork v a b)
@@ -85,8 +85,8 @@ module _ (rs : Roles) (ss : List Shape) (i : ℕ) (before : List NodeSets) (know
       let bounds = known_bounds n v k in
       ap₂ (λ x y. unless x flaw.Branch (unless y flaw.Uneven None))
       (ap₂ ◌&&◌
-      (ap (λ s. has_bit v s.on) ea ∙ has_bit_is n v (λ x. has_leaf ss x true (get_or ss a bottom)) bounds.0 bounds.1)
-      (ap (λ s. has_bit v s.off) eb ∙ has_bit_is n v (λ x. has_leaf ss x false (get_or ss b bottom)) bounds.0 bounds.1))
+      (ap (λ s. has_bit v s.on) ea ∙ has_bit_is n v (λ x. has_literal ss x true (get_or ss a bottom)) bounds.0 bounds.1)
+      (ap (λ s. has_bit v s.off) eb ∙ has_bit_is n v (λ x. has_literal ss x false (get_or ss b bottom)) bounds.0 bounds.1))
       (ap₂ (λ x y. eqb (bit_and x.mentions (chance_mask rs)) (bit_and y.mentions (chance_mask rs))) ea eb
       ∙ even_is 1 rs (get_or ms a none) (get_or ms b none))))
 
@@ -101,7 +101,7 @@ module _ (n : ℕ) where
   nothing_is : nothing ≡ sets n none none none
   nothing_is = λ j. record { mentions = sym (mask_none n) j; on = sym (mask_none n) j; off = sym (mask_none n) j }
 
-  literal_is : (v : ℕ) (on : Bool) → (0 < v) × (v ≤ n) → literal_sets v on ≡ sets n (λ x. eqb x v) (λ x. is_leaf x true (lit v on)) (λ x. is_leaf x false (lit v on))
+  literal_is : (v : ℕ) (on : Bool) → (0 < v) × (v ≤ n) → literal_sets v on ≡ sets n (λ x. eqb x v) (λ x. is_literal x true (lit v on)) (λ x. is_literal x false (lit v on))
   literal_is v true bounds = λ j. record { mentions = one j; on = (one ∙ literal_set n v true) j; off = literal_set n v false j }
     where
       one : bit v ≡ mask n (λ x. eqb x v)
@@ -126,11 +126,11 @@ module _ (rs : Roles) (store : List ℕ) (ns : List Node) where
   -- one child more
   with_one : (m a b d : Vars) (first count : ℕ) (f : Form)
       → with_child (sets n m a b) f (sets_with rs ss d (shape_by store first count f))
-      ≡ sets n (λ x. m x || d x) (λ x. a x || is_leaf x true (shape_by store first count f)) (λ x. b x || is_leaf x false (shape_by store first count f))
+      ≡ sets n (λ x. m x || d x) (λ x. a x || is_literal x true (shape_by store first count f)) (λ x. b x || is_literal x false (shape_by store first count f))
   with_one m a b d first count (Literal v on) = λ j. record {
     mentions = packed_or 1 n m d j;
-    on = packed_or 1 n a (λ x. is_leaf x true (lit v on)) j;
-    off = packed_or 1 n b (λ x. is_leaf x false (lit v on)) j;
+    on = packed_or 1 n a (λ x. is_literal x true (lit v on)) j;
+    off = packed_or 1 n b (λ x. is_literal x false (lit v on)) j;
   }
   with_one m a b d first count And = mentions_more n m a b d
   with_one m a b d first count (Fork v) = mentions_more n m a b d
@@ -141,36 +141,36 @@ module _ (rs : Roles) (store : List ℕ) (ns : List Node) where
     abbrev done : List Vars
     done = take i (mentions ss)
 
-    read : (c : ℕ) → c < i → get_or before c nothing ≡ sets_with rs ss (get_or done c none) (shape store (get_or ns c blank))
+    read : (c : ℕ) → c < i → get_or before c nothing ≡ sets_with rs ss (get_or done c none) (shape store (get_or ns c no_record))
     read c l =
         let size : length ss ≡ length ns = length-map ns (shape store) in
         known_is.are c l
-        ∙ ap₂ (sets_with rs ss) (sym (get_or-take i (mentions ss) c none l)) (get_or-map (shape store) ns c blank bottom (omega arith))
+        ∙ ap₂ (sets_with rs ss) (sym (get_or-take i (mentions ss) c none l)) (get_or-map (shape store) ns c no_record bottom (omega arith))
 
-    children_seen : (m a b : Vars) (cs : List ℕ) → list_all (under i) cs ≡ true
+    children_seen : (m a b : Vars) (cs : List ℕ) → list_all (is_below i) cs ≡ true
         → with_children (sets n m a b) ns before cs
-        ≡ sets n (λ x. m x || list_any (λ c. get_or done c none x) cs) (λ x. a x || list_any (λ c. is_leaf x true (get_or ss c bottom)) cs) (λ x. b x || list_any (λ c. is_leaf x false (get_or ss c bottom)) cs)
+        ≡ sets n (λ x. m x || list_any (λ c. get_or done c none x) cs) (λ x. a x || list_any (λ c. is_literal x true (get_or ss c bottom)) cs) (λ x. b x || list_any (λ c. is_literal x false (get_or ss c bottom)) cs)
     children_seen m a b [] e = same_sets n m a b _ _ _ (λ x. sym (or-false (m x))) (λ x. sym (or-false (a x))) (λ x. sym (or-false (b x)))
     children_seen m a b (c ∷ cs) e =
-        let parts = and_parts (ltb c i) (list_all (under i) cs) e in
+        let parts = and_parts (ltb c i) (list_all (is_below i) cs) e in
         let l = ltb-true c i parts.0 in
-        let node : Node = get_or ns c blank in
+        let node : Node = get_or ns c no_record in
         let d : Vars = get_or done c none in
         let size : length ss ≡ length ns = length-map ns (shape store) in
-        let here : shape store node ≡ get_or ss c bottom = sym (get_or-map (shape store) ns c blank bottom (omega arith)) in
+        let here : shape store node ≡ get_or ss c bottom = sym (get_or-map (shape store) ns c no_record bottom (omega arith)) in
         ap (λ s. with_children (with_child (sets n m a b) node.form s) ns before cs) (read c l)
         ∙ ap (λ s. with_children s ns before cs)
         (with_one m a b d node.first node.count node.form
-        ∙ ap (λ s. sets n (λ x. m x || d x) (λ x. a x || is_leaf x true s) (λ x. b x || is_leaf x false s)) here)
-        ∙ children_seen (λ x. m x || d x) (λ x. a x || is_leaf x true (get_or ss c bottom)) (λ x. b x || is_leaf x false (get_or ss c bottom)) cs parts.1
-        ∙ same_sets n _ _ _ _ _ _ (λ x. or_assoc (m x) (d x) _) (λ x. or_assoc (a x) (is_leaf x true (get_or ss c bottom)) _) (λ x. or_assoc (b x) (is_leaf x false (get_or ss c bottom)) _)
+        ∙ ap (λ s. sets n (λ x. m x || d x) (λ x. a x || is_literal x true s) (λ x. b x || is_literal x false s)) here)
+        ∙ children_seen (λ x. m x || d x) (λ x. a x || is_literal x true (get_or ss c bottom)) (λ x. b x || is_literal x false (get_or ss c bottom)) cs parts.1
+        ∙ same_sets n _ _ _ _ _ _ (λ x. or_assoc (m x) (d x) _) (λ x. or_assoc (a x) (is_literal x true (get_or ss c bottom)) _) (λ x. or_assoc (b x) (is_literal x false (get_or ss c bottom)) _)
 
     -- the sets of a node with no flaw
     pub sets_same : (s : Shape) → flaw_by (length rs) (chance_mask rs) before s ≡ None → sets_by ns before s ≡ sets_with rs ss (mention (take i (mentions ss)) s) s
     sets_same (lit v on) e = literal_is n v on (known_bounds n v (unless_none (known n v) flaw.Variable None e))
     sets_same (all cs) e =
         ap (λ s. with_children s ns before cs) (nothing_is n)
-        ∙ children_seen none none none cs (ap (λ k. list_all (under k) cs) (sym known_is.size) ∙ unless_none (list_all (under (length before)) cs) flaw.Order _ e)
+        ∙ children_seen none none none cs (ap (λ k. list_all (is_below k) cs) (sym known_is.size) ∙ unless_none (list_all (is_below (length before)) cs) flaw.Order _ e)
     sets_same (fork v a b) e =
         let both = and_parts _ _ (ap (λ k. ltb a k && ltb b k) (sym known_is.size) ∙ unless_none (ltb a (length before) && ltb b (length before)) flaw.Order _ e) in
         λ j. record {

@@ -1,14 +1,14 @@
 -- What a checked table says of its nodes and variables. Assumes nothing.
-use Rattle.std.proofs.Common.{◌≡◌, ℕ, suc, ◌-◌, ◌<◌, ◌≤◌, true, false, List, length, get_or, replicate, sym, ap, ◌∙◌, inl, inr, arith}
+use Rattle.std.proofs.Common.{◌≡◌, ℕ, suc, ◌-◌, ◌<◌, ◌≤◌, true, false, List, map, length, get_or, replicate, sym, ap, ◌∙◌, inl, inr, arith}
 use Rattle.std.proofs.lemmas.List.{get_or_past, get_or_append_left, get_or-map, length-map, length-take}
 use Rattle.std.proofs.lemmas.Bool.{cases_Bool, both_ways}
-use Rattle.text.specs.Format.{listed}
+use Rattle.text.specs.Format.{is_option_role, listed}
 use Rattle.text.specs.declared.record.Variable.{Variable}
 use Rattle.table.specs.declared.table.Table.{Table}
 use Rattle.table.specs.Circuit.{Vars, mention, mentions}
 use Rattle.table.specs.Sound.{none, known, is_option, verdict, sound}
-use Rattle.table.specs.Nodes.{shape, is_option_role}
-use Rattle.table.specs.Sets.{mask, masks}
+use Rattle.table.specs.Nodes.{shape}
+use Rattle.table.specs.Sets.{mask}
 use Rattle.table.specs.Masks.{has_bit}
 use Rattle.table.specs.Facts.{about}
 use Rattle.table.specs.Whole.{circuit, roles}
@@ -40,9 +40,9 @@ module _ (t : Table) where
 
   pub set_is : (i : ℕ) → i < length t.nodes.now → get_or t.mentions.sets i 0 ≡ mask (length (roles t)) (about (circuit t) i)
   set_is i h =
-      let ms = masks (length (roles t)) (circuit t) in
+      let ms : List ℕ = map (mask (length (roles t))) (mentions (circuit t)) in
       let long : i < length ms = omega (arith, length-map (mentions (circuit t)) (mask (length (roles t))), upward_length mention (circuit t), size) in
-      ap (λ xs. get_or xs i 0) t.mentioned ∙ get_or_append_left ms (replicate (4096 - length (circuit t)) 0) 0 i long ∙ getD_mask (length (roles t)) (mentions (circuit t)) i
+      ap (λ m. get_or m.sets i 0) t.mentioned ∙ get_or_append_left ms (replicate (4096 - length (circuit t)) 0) 0 i long ∙ getD_mask (length (roles t)) (mentions (circuit t)) i
 
   pub bit_says : (i v : ℕ) → i < length t.nodes.now → known (length (roles t)) v ≡ true → has_bit v (get_or t.mentions.sets i 0) ≡ about (circuit t) i v
   bit_says i v h k =

@@ -6,21 +6,15 @@ use Rattle.std.specs.Int.Bits.{or_zero_r}
 use Rattle.std.specs.List.{fold, list_all}
 use Rattle.std.proofs.lemmas.List.Sums.{fold-append}
 use Rattle.std.proofs.lemmas.List.{reverse-append, length-map, length-take}
-use Rattle.text.specs.declared.record.Role.{Role}
-use Rattle.text.specs.declared.record.Role.TheVariants as role
 use Rattle.text.specs.declared.record.Variable.{Variable}
 use Rattle.text.specs.declared.record.Variables.{Variables}
-use Rattle.text.specs.Format.{listed}
+use Rattle.text.specs.Format.{is_option_role, listed}
 use Rattle.table.specs.Circuit.{Vars, same}
 use Rattle.table.specs.Sound.{Roles, from, alike}
-use Rattle.table.specs.Nodes.{roles_of, is_option_role}
+use Rattle.table.specs.Nodes.{roles_of}
 use Rattle.table.specs.Sets.{packed}
-use Rattle.table.specs.Masks.{chance_bit, chance_mask}
+use Rattle.table.specs.Masks.{chance_mask}
 use Rattle.table.proofs.Packs.{and_bit, same_bit}
-
-chance_role : (r : Role) → cond (is_option_role r) 0 1 ≡ chance_bit r
-chance_role role.Option = refl
-chance_role role.Chance = refl
 
 chance_below : (rs : Roles) → chance_mask rs < 2 ^ length rs
 unfolding chance_mask
@@ -36,7 +30,7 @@ roles_few vs = let e = roles_length vs in let f = vs.fits in let t : length (lis
 
 -- the set with one variable more in front
 abbrev pub chance_step : ℕ → Variable → ℕ
-chance_step set v = bit_or ((set * 2 ^ 1) % 2 ^ 64) (chance_bit v.role)
+chance_step set v = bit_or ((set * 2 ^ 1) % 2 ^ 64) (cond (is_option_role v.role) 0 1)
 
 low_bit : (n : ℕ) (b : Bool) → bit_or (n * 2) (cond b 0 1) ≡ n * 2 + cond b 0 1
 low_bit n true = or_zero_r (n * 2) ∙ sym (add-zero (n * 2))
@@ -55,7 +49,7 @@ fold_chances (v ∷ vs) h =
     let fits : chance_mask rs * 2 ^ 1 % 2 ^ 64 ≡ chance_mask rs * 2 = let b = chance_below rs in omega arith in
     ap (fold chance_step 0) (reverse-append (v ∷ []) vs) ∙ fold-append chance_step 0 (reverse vs) (v ∷ [])
     ∙ ap (λ n. chance_step n v) (fold_chances vs (omega arith))
-    ∙ ap₂ bit_or fits (sym (chance_role v.role)) ∙ low_bit (chance_mask rs) (is_option_role v.role)
+    ∙ ap (λ x. bit_or x (cond (is_option_role v.role) 0 1)) fits ∙ low_bit (chance_mask rs) (is_option_role v.role)
 
 same_off : (a b : Bool) → same (a && false) (b && false) ≡ true
 same_off true true = refl

@@ -1,25 +1,25 @@
 -- What each test of a node decides. Assumes nothing.
-use Rattle.std.specs.List.{list_all}
+use Rattle.std.specs.List.{list_all, range_with_len}
 use Rattle.std.proofs.Common.{◌≡◌, ℕ, zero, suc, ◌+◌, ◌<◌, ◌≤◌, Bool, true, false, not, ◌&&◌, eqb, ltb, leb, ◌⊎◌, List, [], ◌∷◌, length, get_or, Decides, All, refl, inl, inr, not-suc-le-zero, arith}
 use Rattle.std.proofs.lemmas.List.Elements.{All-get_or, All-from_get_or}
 use Rattle.std.proofs.lemmas.Bool.{false≢true, leb-true, le-leb, cases_eq}
 use Rattle.std.proofs.lemmas.Bool.Decides.{Decides-by_and, Decides-like, Decides-and, Decides-ltb, Decides-eqb}
 use Rattle.table.specs.Circuit.{Shape, lit, all, fork, top, bottom, Vars, same}
-use Rattle.table.specs.Sound.{Roles, none, is_leaf, has_leaf, up_to, disjoint, apart, known}
+use Rattle.table.specs.Sound.{Roles, none, is_literal, has_literal, disjoint, apart, known}
 use Rattle.table.specs.Facts.{Among, node, Known, HasLiteral}
 use Rattle.table.proofs.Listed.{decides_same, decides_every, some_at, some_among}
 
 pub decides_known : (rs : Roles) (v : ℕ) → Decides (known (length rs) v) (Known rs v)
 decides_known rs v = Decides-and (ltb 0 v) (leb v (length rs)) (Decides-ltb 0 v) (leb-true v (length rs), le-leb v (length rs))
 
-among_up_to : (i n v : ℕ) → i ≤ v → v < i + n → Among v (up_to i n)
+among_up_to : (i n v : ℕ) → i ≤ v → v < i + n → Among v (range_with_len i n)
 among_up_to i zero v l h = absurd (omega arith)
 among_up_to i (suc n) v l h = elim (cases_eq i v) [ inl e ↦ inl e | inr d ↦ inr (among_up_to (i + 1) n v (omega arith) (omega arith)) ]
 
-pub among_known : (rs : Roles) (v : ℕ) → Known rs v → Among v (up_to 1 (length rs))
+pub among_known : (rs : Roles) (v : ℕ) → Known rs v → Among v (range_with_len 1 (length rs))
 among_known rs v h = among_up_to 1 (length rs) v h.0 (omega arith)
 
-pub decides_leaf : (v : ℕ) (b : Bool) (s : Shape) → Decides (is_leaf v b s) (s ≡ lit v b)
+pub decides_leaf : (v : ℕ) (b : Bool) (s : Shape) → Decides (is_literal v b s) (s ≡ lit v b)
 decides_leaf v b (lit x on) =
     Decides-like (eqb x v && same on b) (λ h. cc) (λ e. (cc, cc)) (Decides-and (eqb x v) (same on b) (Decides-eqb x v) (decides_same on b))
 decides_leaf v b (all cs) = (λ e. absurd (false≢true e), λ e. cc)
@@ -27,16 +27,16 @@ decides_leaf v b (fork x p q) = (λ e. absurd (false≢true e), λ e. cc)
 decides_leaf v b top = (λ e. absurd (false≢true e), λ e. cc)
 decides_leaf v b bottom = (λ e. absurd (false≢true e), λ e. cc)
 
-pub decides_has : (ss : List Shape) (v : ℕ) (b : Bool) (i : ℕ) → Decides (has_leaf ss v b (node ss i)) (HasLiteral ss v b i)
+pub decides_has : (ss : List Shape) (v : ℕ) (b : Bool) (i : ℕ) → Decides (has_literal ss v b (node ss i)) (HasLiteral ss v b i)
 decides_has ss v b i = by (node ss i)
   where
-    by : (s : Shape) → Decides (has_leaf ss v b s) ((s ≡ lit v b) ⊎ ((cs : List ℕ) × (c : ℕ) × (s ≡ all cs) × Among c cs × (node ss c ≡ lit v b)))
-    by (lit x on) = Decides-like (is_leaf v b (lit x on)) inl (λ h. elim h [ inl e ↦ e | inr h ↦ cc h.2 ]) (decides_leaf v b (lit x on))
+    by : (s : Shape) → Decides (has_literal ss v b s) ((s ≡ lit v b) ⊎ ((cs : List ℕ) × (c : ℕ) × (s ≡ all cs) × Among c cs × (node ss c ≡ lit v b)))
+    by (lit x on) = Decides-like (is_literal v b (lit x on)) inl (λ h. elim h [ inl e ↦ e | inr h ↦ cc h.2 ]) (decides_leaf v b (lit x on))
     by (all cs) = (
-      λ e. let l = some_at (λ c. is_leaf v b (node ss c)) cs e in inr (cs, l.0, refl, l.1, (decides_leaf v b (node ss l.0)).0 l.2),
+      λ e. let l = some_at (λ c. is_literal v b (node ss c)) cs e in inr (cs, l.0, refl, l.1, (decides_leaf v b (node ss l.0)).0 l.2),
       λ h. elim h [
         | inl e ↦ cc
-        | inr h ↦ some_among (λ c. is_leaf v b (node ss c)) cs h.1 (let e : h.0 ≡ cs = cc h.2 in rw e at h.3) ((decides_leaf v b (node ss h.1)).1 h.4)
+        | inr h ↦ some_among (λ c. is_literal v b (node ss c)) cs h.1 (let e : h.0 ≡ cs = cc h.2 in rw e at h.3) ((decides_leaf v b (node ss h.1)).1 h.4)
       ],
     )
     by (fork x p q) = (λ e. absurd (false≢true e), λ h. elim h [ inl e ↦ cc | inr h ↦ cc h.2 ])

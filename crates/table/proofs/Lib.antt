@@ -5,7 +5,6 @@ pub mod Decided
 pub mod Sounds
 pub mod Numbers
 pub mod Packs
-pub mod Folds
 pub mod Chances
 pub mod Agree
 pub mod Surveys

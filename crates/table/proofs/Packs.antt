@@ -1,5 +1,5 @@
 -- Sets of variables as bits of a number. Assumes nothing.
-use Rattle.std.specs.List.{list_all}
+use Rattle.std.specs.List.{list_all, range_with_len}
 use Rattle.std.proofs.Common.{◌≡◌, ℕ, zero, suc, ◌+◌, ◌-◌, ◌*◌, ◌/◌, ◌%◌, ◌^◌, ◌<◌, ◌≤◌, min, max, Bool, true, false, cond, not, ◌&&◌, ◌||◌, eqb, ltb, ◌⊎◌, List, [], ◌∷◌, map, get_or, sym, refl, ap, ◌∙◌, ap₂, inl, inr, pow-suc, arith}
 use mathlib.Core.Path.{fun_ext}
 use Rattle.std.proofs.Math.Bool.{and-true, and-false, not-not}
@@ -7,9 +7,9 @@ use Rattle.std.proofs.Math.ListN.{get_or-map as get_or-mapped}
 use lib.Bits.{bit_and, bit_or, and_step, or_step}
 use Rattle.std.proofs.lemmas.Bool.{and_parts, ltb-true, eq-eqb, ne_eqb, cases_order, cases_eq}
 use Rattle.table.specs.Circuit.{Vars, same}
-use Rattle.table.specs.Sound.{none, disjoint, apart, up_to}
+use Rattle.table.specs.Sound.{none, disjoint, apart, is_below}
 use Rattle.table.specs.Sets.{packed, mask}
-use Rattle.table.specs.Masks.{under, nothing, has_bit, apart_masks}
+use Rattle.table.specs.Masks.{nothing, has_bit, apart_masks}
 use Rattle.table.specs.declared.known.NodeSets.{NodeSets}
 
 pub half : (p : ℕ) (b : Bool) → (p * 2 + cond b 1 0) / 2 ≡ p
@@ -76,12 +76,12 @@ none_bit p true = ne_eqb _ _ (omega arith)
 none_bit zero false = refl
 none_bit (suc p) false = ne_eqb (suc p * 2 + 0) 0 (omega arith) ∙ sym (ne_eqb (suc p) 0 (omega arith))
 
-packed_none : (i k : ℕ) (m : Vars) → eqb (packed i m k) 0 ≡ list_all (λ v. not (m v)) (up_to i k)
+packed_none : (i k : ℕ) (m : Vars) → eqb (packed i m k) 0 ≡ list_all (λ v. not (m v)) (range_with_len i k)
 unfolding packed
 packed_none i zero m = refl
 packed_none i (suc k) m = none_bit _ (m i) ∙ ap (λ x. not (m i) && x) (packed_none (i + 1) k m)
 
-mask_apart : (n : ℕ) (a b : Vars) → eqb (bit_and (mask n a) (mask n b)) 0 ≡ disjoint (up_to 1 n) a b
+mask_apart : (n : ℕ) (a b : Vars) → eqb (bit_and (mask n a) (mask n b)) 0 ≡ disjoint (range_with_len 1 n) a b
 mask_apart n a b = ap (λ x. eqb x 0) (packed_and 1 n a b) ∙ packed_none 1 n (λ v. a v && b v)
 
 pub mask_none : (n : ℕ) → mask n none ≡ 0
@@ -121,11 +121,11 @@ packed_one i (suc k) v l m = by (cases_order i v) (λ g. packed_one (i + 1) k v 
     by (inr (inr g)) more = absurd (far g l)
 
 -- whether a variable is in a set
-past_only : (i k v : ℕ) (m : Vars) → v < i → list_all (λ x. not (m x && eqb x v)) (up_to i k) ≡ true
+past_only : (i k v : ℕ) (m : Vars) → v < i → list_all (λ x. not (m x && eqb x v)) (range_with_len i k) ≡ true
 past_only i zero v m l = refl
 past_only i (suc k) v m l = ap₂ ◌&&◌ (ap (λ b. not (m i && b)) (ne_eqb i v (omega arith)) ∙ ap not (and-false (m i))) (past_only (i + 1) k v m (omega arith))
 
-only : (i k v : ℕ) (m : Vars) → i ≤ v → v < i + k → list_all (λ x. not (m x && eqb x v)) (up_to i k) ≡ not (m v)
+only : (i k v : ℕ) (m : Vars) → i ≤ v → v < i + k → list_all (λ x. not (m x && eqb x v)) (range_with_len i k) ≡ not (m v)
 only i zero v m l h = absurd (far l h)
   where
     far : i ≤ v → v < i + 0 → ⊥
@@ -135,7 +135,7 @@ only i (suc k) v m l h = by (cases_order i v) (λ g. only (i + 1) k v m (let q :
     far : v < i → i ≤ v → ⊥
     far a b = omega arith
 
-    by : (i ≡ v) ⊎ ((i < v) ⊎ (v < i)) → (i < v → list_all (λ x. not (m x && eqb x v)) (up_to (i + 1) k) ≡ not (m v)) → (not (m i && eqb i v) && list_all (λ x. not (m x && eqb x v)) (up_to (i + 1) k)) ≡ not (m v)
+    by : (i ≡ v) ⊎ ((i < v) ⊎ (v < i)) → (i < v → list_all (λ x. not (m x && eqb x v)) (range_with_len (i + 1) k) ≡ not (m v)) → (not (m i && eqb i v) && list_all (λ x. not (m x && eqb x v)) (range_with_len (i + 1) k)) ≡ not (m v)
     by (inl e) more =
         ap₂ ◌&&◌ (ap (λ b. not (m i && b)) (eq-eqb i v e) ∙ ap not (and-true (m i)) ∙ ap (λ x. not (m x)) e) (past_only (i + 1) k v m (omega arith))
         ∙ and-true (not (m v))
@@ -190,20 +190,20 @@ every_true p (x ∷ xs) h = ap₂ ◌&&◌ (h x) (every_true p xs h)
 
 -- several nodes, of which the sets `before` are known
 module _ (n i : ℕ) (ms : List Vars) (before : List NodeSets) (read : (c : ℕ) → c < i → (get_or before c nothing).mentions ≡ mask n (get_or ms c none)) where
-  apart_seen : (seen : Vars) (cs : List ℕ) → list_all (under i) cs ≡ true
-      → apart_masks (mask n seen) before cs ≡ (list_all (λ d. disjoint (up_to 1 n) seen (get_or ms d none)) cs && apart (up_to 1 n) ms cs)
+  apart_seen : (seen : Vars) (cs : List ℕ) → list_all (is_below i) cs ≡ true
+      → apart_masks (mask n seen) before cs ≡ (list_all (λ d. disjoint (range_with_len 1 n) seen (get_or ms d none)) cs && apart (range_with_len 1 n) ms cs)
   apart_seen seen [] e = refl
   apart_seen seen (c ∷ cs) e =
-      let vs : List ℕ = up_to 1 n in
+      let vs : List ℕ = range_with_len 1 n in
       let mc : Vars = get_or ms c none in
-      let parts = and_parts (ltb c i) (list_all (under i) cs) e in
+      let parts = and_parts (ltb c i) (list_all (is_below i) cs) e in
       ap (λ x. eqb (bit_and (mask n seen) x) 0 && apart_masks (bit_or (mask n seen) x) before cs) (read c (ltb-true c i parts.0))
       ∙ ap₂ ◌&&◌ (mask_apart n seen mc) (ap (λ y. apart_masks y before cs) (packed_or 1 n seen mc) ∙ apart_seen (λ v. seen v || mc v) cs parts.1)
       ∙ ap (λ f. disjoint vs seen mc && (list_all f cs && apart vs ms cs)) (fun_ext (λ d. disjoint_or vs seen mc (get_or ms d none)))
       ∙ ap (λ b. disjoint vs seen mc && (b && apart vs ms cs)) (every_and (λ d. disjoint vs seen (get_or ms d none)) (λ d. disjoint vs mc (get_or ms d none)) cs)
       ∙ and_swap (disjoint vs seen mc) _ _ (apart vs ms cs)
 
-  pub apart_is : (cs : List ℕ) → list_all (under i) cs ≡ true → apart_masks 0 before cs ≡ apart (up_to 1 n) ms cs
+  pub apart_is : (cs : List ℕ) → list_all (is_below i) cs ≡ true → apart_masks 0 before cs ≡ apart (range_with_len 1 n) ms cs
   apart_is cs e =
       ap (λ y. apart_masks y before cs) (sym (mask_none n)) ∙ apart_seen none cs e
-      ∙ ap (λ b. b && apart (up_to 1 n) ms cs) (every_true (λ d. disjoint (up_to 1 n) none (get_or ms d none)) cs (λ d. every_true (λ v. not (none v && get_or ms d none v)) (up_to 1 n) (λ v. refl)))
+      ∙ ap (λ b. b && apart (range_with_len 1 n) ms cs) (every_true (λ d. disjoint (range_with_len 1 n) none (get_or ms d none)) cs (λ d. every_true (λ v. not (none v && get_or ms d none v)) (range_with_len 1 n) (λ v. refl)))

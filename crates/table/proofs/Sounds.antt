@@ -1,11 +1,11 @@
 -- A circuit is found sound if it is proper, and only then. Assumes nothing.
-use Rattle.std.specs.List.{list_all}
+use Rattle.std.specs.List.{list_all, range_with_len}
 use Rattle.std.proofs.Common.{◌≡◌, ℕ, zero, suc, ◌+◌, ◌-◌, ◌<◌, Bool, true, false, List, [], ◌∷◌, length, get_or, Some, None, Decides, Option, refl, subst, inl, inr, add-zero, zero-add, arith}
 use Rattle.std.proofs.lemmas.Bool.{false≢true, cases_Bool, cond-true, cond-false}
 use Rattle.std.proofs.lemmas.Bool.Decides.{Decides-and, Decides-ltb}
 use Rattle.table.specs.declared.fault.Flaw.{Flaw}
 use Rattle.table.specs.Circuit.{Shape, lit, all, fork, top, bottom, mentions}
-use Rattle.table.specs.Sound.{Roles, Verdict, sound, chances, up_to, children, unless, flaw_first, flaw_at, verdict_from, verdict}
+use Rattle.table.specs.Sound.{Roles, Verdict, sound, chances, children, unless, flaw_first, flaw_at, verdict_from, verdict}
 use Rattle.table.specs.Facts.{Among, node, about, Ordered, Known, Total, KnownVariables, HasLiteral, Proper, Deterministic, LocalTruth}
 use Rattle.table.proofs.Listed.{decides_same, decides_every}
 use Rattle.table.proofs.Truths.{about_known, ordered_local, decisions_exclude}
@@ -34,7 +34,7 @@ module _ (rs : Roles) (ss : List Shape) where
   -- what node i is if it has no flaw
   abbrev Fine : ℕ → Shape → Type 0
   Fine i (lit v b) = Known rs v
-  Fine i (all cs) = ((c : ℕ) → Among c cs → c < i) × Apart (up_to 1 (length rs)) (mentions ss) cs
+  Fine i (all cs) = ((c : ℕ) → Among c cs → c < i) × Apart (range_with_len 1 (length rs)) (mentions ss) cs
   Fine i (fork v a b) =
       ((a < i) × (b < i)) × (Known rs v × ((HasLiteral ss v true a × HasLiteral ss v false b) × ((x : ℕ) → Among x (chances rs) → about ss a x ≡ about ss b x)))
   Fine i top = Unit {0}
@@ -43,7 +43,7 @@ module _ (rs : Roles) (ss : List Shape) where
   clear_at : (i : ℕ) (s : Shape) → Clear (flaw_at rs ss (mentions ss) i s) (Fine i s)
   clear_at i (lit v b) = clear_last _ _ (decides_known rs v)
   clear_at i (all cs) =
-      clear_unless _ _ _ (decides_every _ _ (λ c. Decides-ltb c i) cs) (clear_last _ _ (decides_apart (up_to 1 (length rs)) (mentions ss) cs))
+      clear_unless _ _ _ (decides_every _ _ (λ c. Decides-ltb c i) cs) (clear_last _ _ (decides_apart (range_with_len 1 (length rs)) (mentions ss) cs))
   clear_at i (fork v a b) =
       clear_unless _ _ _ (Decides-and _ _ (Decides-ltb a i) (Decides-ltb b i))
       (clear_unless _ _ _ (decides_known rs v)

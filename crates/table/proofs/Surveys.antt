@@ -11,15 +11,15 @@ use Rattle.text.specs.declared.fault.Reason.TheVariants as reason
 use Rattle.text.specs.declared.record.Node.{Node}
 use Rattle.text.specs.declared.record.Variable.{Variable}
 use Rattle.text.specs.declared.record.Variables.{Variables}
-use Rattle.text.specs.Format.{listed, options}
+use Rattle.text.specs.Format.{listed, option_count}
 use Rattle.table.specs.declared.fault.Fault.TheVariants as fault
 use Rattle.table.specs.declared.fault.Flaw.{Flaw}
 use Rattle.table.specs.declared.fault.Flaw.TheVariants as flaw
 use Rattle.table.specs.Circuit.{Shape, bottom, Vars, mention, mentions}
 use Rattle.table.specs.Sound.{Roles, Verdict, sound, flawed, none, chances, flaw_first, flaw_at, verdict_from, verdict}
 use Rattle.table.specs.Nodes.{shape, shapes, roles_of}
-use Rattle.table.specs.Sets.{mask, masks, mentions_of}
-use Rattle.table.specs.Masks.{nothing, mentions_in, blank, chance_mask, flaw_by, sets_by}
+use Rattle.table.specs.Sets.{mask, mentions_of}
+use Rattle.table.specs.Masks.{nothing, mentions_in, no_record, chance_mask, flaw_by, sets_by}
 use Rattle.table.specs.declared.known.NodeSets.{NodeSets}
 use Rattle.table.specs.Check.{counts_within, options_within, answer_by, check_says}
 use Rattle.table.proofs.Packs.{getD_mask}
@@ -47,7 +47,7 @@ module _ (vs : Variables) (cs : List ℕ) (ns : List Node) (i : ℕ) (known : Li
 
   -- the node's record as the code reads it
   abbrev read : Shape
-  read = shape cs (get_or ns i blank)
+  read = shape cs (get_or ns i no_record)
 
   size : length ss ≡ length ns
   size = length-map ns (shape cs)
@@ -56,7 +56,7 @@ module _ (vs : Variables) (cs : List ℕ) (ns : List Node) (i : ℕ) (known : Li
   short = let e = size in omega arith
 
   node_is : read ≡ here
-  node_is = sym (get_or-map (shape cs) ns i blank bottom l)
+  node_is = sym (get_or-map (shape cs) ns i no_record bottom l)
 
   known_is : Known rs ss i (take i known)
   known_is = record {
@@ -81,12 +81,12 @@ module _ (vs : Variables) (cs : List ℕ) (ns : List Node) (i : ℕ) (known : Li
   after o = flaw_first i o (verdict_from rs ss (mentions ss) (i + 1) (drop (i + 1) ss))
 
   -- a node with a flaw decides
-  pub stops : (f : Flaw) → Some f ≡ flaw_by (length all) k (take i known) (shape cs (get_or ns i blank))
+  pub stops : (f : Flaw) → Some f ≡ flaw_by (length all) k (take i known) (shape cs (get_or ns i no_record))
       → Err (fault.Node f i) ≡ answer_by (roles_of vs) (shapes cs ns) (verdict (roles_of vs) (shapes cs ns))
   unfolding after
   stops f e = sym (ap (answer_by rs ss) (sym inv.rest ∙ step ∙ ap after (sym (e ∙ flaw_here))))
 
-  module _ (fine : None ≡ flaw_by (length all) k (take i known) (shape cs (get_or ns i blank))) where
+  module _ (fine : None ≡ flaw_by (length all) k (take i known) (shape cs (get_or ns i no_record))) where
     flawless : flaw_by (length rs) (chance_mask rs) (take i known) here ≡ None
     flawless = flaw_known ∙ sym (fine ∙ flaw_here)
 
@@ -94,7 +94,7 @@ module _ (vs : Variables) (cs : List ℕ) (ns : List Node) (i : ℕ) (known : Li
     unfolding after
     goes = ap after (fine ∙ flaw_here) ∙ sym step ∙ inv.rest
 
-    module _ (s : NodeSets) (s-by : s ≡ sets_by ns (take i known) (shape cs (get_or ns i blank))) where
+    module _ (s : NodeSets) (s-by : s ≡ sets_by ns (take i known) (shape cs (get_or ns i no_record))) where
       s_is : s ≡ sets_at rs ss i
       s_is =
           s-by ∙ ap (sets_by ns (take i known)) node_is ∙ sets_same rs cs ns i (take i known) short known_is here flawless
@@ -150,12 +150,12 @@ module _ (rs : Roles) (cs : List ℕ) (ns : List Node) (i : ℕ) (known : List N
   filled_up : mentions_in (take (length ns) known) ≡ mentions_of (length rs) whole
   filled_up = ap₂ (λ xs n. record { sets = xs ++ replicate (4096 - n) 0 }) (same_number_lists _ _ same_size same) taken
     where
-      same_size : length (map (λ (s : NodeSets). s.mentions) (take (length ns) known)) ≡ length (masks (length rs) whole)
+      same_size : length (map (λ (s : NodeSets). s.mentions) (take (length ns) known)) ≡ length (map (mask (length rs)) (mentions whole))
       same_size =
           length-map (take (length ns) known) (λ s. s.mentions) ∙ taken
           ∙ sym (length-map (mentions whole) (mask (length rs)) ∙ upward_length mention whole)
 
-      same : (c : ℕ) → c < length (map (λ (s : NodeSets). s.mentions) (take (length ns) known)) → get_or (map (λ (s : NodeSets). s.mentions) (take (length ns) known)) c 0 ≡ get_or (masks (length rs) whole) c 0
+      same : (c : ℕ) → c < length (map (λ (s : NodeSets). s.mentions) (take (length ns) known)) → get_or (map (λ (s : NodeSets). s.mentions) (take (length ns) known)) c 0 ≡ get_or (map (mask (length rs)) (mentions whole)) c 0
       same c l =
           let m : c < length ns = let e = length-map (take (length ns) known) (λ (s : NodeSets). s.mentions) in let f = taken in let g = count in omega arith in
           get_or-mapped (λ s. s.mentions) (take (length ns) known) c nothing
@@ -172,10 +172,10 @@ module _ (vs : Variables) (ns : List Node) (cs : List ℕ) where
   unfolding check_says
   limits_fail e = sym (cond-false (counts_within vs ns) _ _ (sym e))
 
-  pub options_fail : true ≡ counts_within vs ns → 20 < options (listed vs) → Err (fault.Text (text_fault.Line reason.Variable (vs.count + 1))) ≡ check_says vs ns cs
+  pub options_fail : true ≡ counts_within vs ns → 20 < option_count (listed vs) → Err (fault.Text (text_fault.Line reason.Variable (vs.count + 1))) ≡ check_says vs ns cs
   unfolding check_says
-  options_fail e h = sym (cond-true (counts_within vs ns) _ _ (sym e) ∙ cond-false (options_within vs) _ _ (lt-leb (options (listed vs)) 20 h))
+  options_fail e h = sym (cond-true (counts_within vs ns) _ _ (sym e) ∙ cond-false (options_within vs) _ _ (lt-leb (option_count (listed vs)) 20 h))
 
-  pub limits_hold : true ≡ counts_within vs ns → options (listed vs) ≤ 20 → answer_by (roles_of vs) (shapes cs ns) (verdict (roles_of vs) (shapes cs ns)) ≡ check_says vs ns cs
+  pub limits_hold : true ≡ counts_within vs ns → option_count (listed vs) ≤ 20 → answer_by (roles_of vs) (shapes cs ns) (verdict (roles_of vs) (shapes cs ns)) ≡ check_says vs ns cs
   unfolding check_says
-  limits_hold e h = sym (cond-true (counts_within vs ns) _ _ (sym e) ∙ cond-true (options_within vs) _ _ (le-leb (options (listed vs)) 20 h))
+  limits_hold e h = sym (cond-true (counts_within vs ns) _ _ (sym e) ∙ cond-true (options_within vs) _ _ (le-leb (option_count (listed vs)) 20 h))

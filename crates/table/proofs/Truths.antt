@@ -4,7 +4,7 @@ use mathlib.Core.Path.{fun_ext}
 use Rattle.std.proofs.lemmas.Bool.{false≢true, or_left, or_right, or_cases, eqb-true, eq-eqb}
 use Rattle.table.specs.Circuit.{Shape, lit, all, fork, top, bottom, World, Vars, upward, same, truth, mention, mentions}
 use Rattle.table.specs.Sound.{Roles, none, children}
-use Rattle.table.specs.Facts.{Among, node, about, holds, Ordered, Known, KnownVariables, HasLiteral, Decisions, Deterministic, LocalTruth}
+use Rattle.table.specs.Facts.{Among, node, about, true_at, Ordered, Known, KnownVariables, HasLiteral, Decisions, Deterministic, LocalTruth}
 use Rattle.table.proofs.Listed.{decides_same, every_at, every_same, some_same, some_at, some_among}
 use Rattle.table.proofs.Upward.{by_children, upward_at}
 
@@ -23,7 +23,7 @@ mention_by_values xs ys top h = refl
 mention_by_values xs ys bottom h = refl
 
 module _ (ss : List Shape) (ordered : Ordered ss) where
-  pub holds_at : (w : World) (i : ℕ) → holds ss w i ≡ truth w (upward (truth w) ss) (node ss i)
+  pub holds_at : (w : World) (i : ℕ) → true_at ss w i ≡ truth w (upward (truth w) ss) (node ss i)
   holds_at w = upward_at (truth w) false (record { by_values = truth_by_values w; at_bottom = λ _. refl }) ss ordered
 
   pub about_at : (i : ℕ) → about ss i ≡ mention (mentions ss) (node ss i)
@@ -44,7 +44,7 @@ module _ (ss : List Shape) (ordered : Ordered ss) where
       step i bottom is below v e = absurd (false≢true e)
 
   -- two worlds that agree on what s mentions give it one truth, if that holds of its children
-  shape_local : (u w : World) (s : Shape) → ((c : ℕ) → Among c (children s) → ((x : ℕ) → about ss c x ≡ true → u x ≡ w x) → holds ss u c ≡ holds ss w c)
+  shape_local : (u w : World) (s : Shape) → ((c : ℕ) → Among c (children s) → ((x : ℕ) → about ss c x ≡ true → u x ≡ w x) → true_at ss u c ≡ true_at ss w c)
       → ((x : ℕ) → mention (mentions ss) s x ≡ true → u x ≡ w x) → truth u (upward (truth u) ss) s ≡ truth w (upward (truth w) ss) s
   shape_local u w (lit v on) h g = ap (λ b. same b on) (g v (eq-eqb v v refl))
   shape_local u w (all cs) h g = every_same _ _ cs (λ c m. h c m (λ x e. g x (some_among (λ d. about ss d x) cs c m e)))
@@ -54,23 +54,23 @@ module _ (ss : List Shape) (ordered : Ordered ss) where
   shape_local u w bottom h g = refl
 
   pub ordered_local : LocalTruth ss
-  ordered_local i u w = by_children ss ordered (λ j. ((x : ℕ) → about ss j x ≡ true → u x ≡ w x) → holds ss u j ≡ holds ss w j) (λ j below g.
+  ordered_local i u w = by_children ss ordered (λ j. ((x : ℕ) → about ss j x ≡ true → u x ≡ w x) → true_at ss u j ≡ true_at ss w j) (λ j below g.
       holds_at u j
       ∙ shape_local u w (node ss j) below (λ x e. g x (ap (λ (m : Vars). m x) (about_at j) ∙ e))
       ∙ sym (holds_at w j)) i
 
   -- a true node that is s makes the step true at s
-  truth_at : (w : World) (i : ℕ) (s : Shape) → node ss i ≡ s → holds ss w i ≡ true → truth w (upward (truth w) ss) s ≡ true
+  truth_at : (w : World) (i : ℕ) (s : Shape) → node ss i ≡ s → true_at ss w i ≡ true → truth w (upward (truth w) ss) s ≡ true
   truth_at w i s e t = rw e at (sym (holds_at w i) ∙ t)
 
-  leaf_decides : (w : World) (v : ℕ) (b : Bool) (i : ℕ) → node ss i ≡ lit v b → holds ss w i ≡ true → w v ≡ b
+  leaf_decides : (w : World) (v : ℕ) (b : Bool) (i : ℕ) → node ss i ≡ lit v b → true_at ss w i ≡ true → w v ≡ b
   leaf_decides w v b i e t = (decides_same (w v) b).0 (truth_at w i (lit v b) e t)
 
   -- a node with a literal is true only where the literal is
-  pub literal_decides : (w : World) (v : ℕ) (b : Bool) (i : ℕ) → HasLiteral ss v b i → holds ss w i ≡ true → w v ≡ b
+  pub literal_decides : (w : World) (v : ℕ) (b : Bool) (i : ℕ) → HasLiteral ss v b i → true_at ss w i ≡ true → w v ≡ b
   literal_decides w v b i (inl e) t = leaf_decides w v b i e t
   literal_decides w v b i (inr h) t =
-      leaf_decides w v b h.1 h.4 (every_at (holds ss w) h.0 (truth_at w i (all h.0) h.2 t) h.1 h.3)
+      leaf_decides w v b h.1 h.4 (every_at (true_at ss w) h.0 (truth_at w i (all h.0) h.2 t) h.1 h.3)
 
   pub decisions_exclude : Decisions ss → Deterministic ss
   decisions_exclude decisions w i v a b e on off =

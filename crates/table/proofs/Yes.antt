@@ -7,9 +7,9 @@ use Rattle.table.specs.declared.mentions.Mentions.{Mentions}
 use Rattle.table.specs.Circuit.{Shape}
 use Rattle.table.specs.Sound.{Roles, Verdict, sound, flawed, is_sound, verdict}
 use Rattle.table.specs.Nodes.{shapes, roles_of}
-use Rattle.table.specs.Sets.{padded}
+use Rattle.table.specs.Sets.{mentions_of}
 use Rattle.std.proofs.lemmas.Bool.{and_parts, and_from, leb-true, le-leb, cond-true}
-use Rattle.text.specs.Format.{options, listed}
+use Rattle.text.specs.Format.{option_count, listed}
 use Rattle.table.specs.Facts.{Within, Accepts, Means}
 use Rattle.table.proofs.Sounds.{sound_proper, proper_sound, deterministic, local_truth}
 use Rattle.table.specs.Check.{counts_within, options_within, answer_by, check_says}
@@ -25,12 +25,12 @@ passed : (b : Bool) (said : Result Mentions Fault) (f : Fault) (m : Mentions) �
 passed true said f m e = (refl, e)
 passed false said f m e = never f m e
 
-by_verdict : (rs : Roles) (ss : List Shape) (v : Verdict) (m : Mentions) → answer_by rs ss v ≡ Ok m → (is_sound v ≡ true) × (m.sets ≡ padded (length rs) ss)
-by_verdict rs ss sound m e = (refl, sym (ap (λ x. x.sets) (same_ok _ m e)))
+by_verdict : (rs : Roles) (ss : List Shape) (v : Verdict) (m : Mentions) → answer_by rs ss v ≡ Ok m → (is_sound v ≡ true) × (m ≡ mentions_of (length rs) ss)
+by_verdict rs ss sound m e = (refl, sym (same_ok _ m e))
 by_verdict rs ss (flawed f i) m e = never _ m e
 
 pub accepted : (vs : Variables) (ns : List Node) (cs : List ℕ) (m : Mentions) → check_says vs ns cs ≡ Ok m →
-    (counts_within vs ns ≡ true) × (options_within vs ≡ true) × (is_sound (verdict (roles_of vs) (shapes cs ns)) ≡ true) × (m.sets ≡ padded (length (roles_of vs)) (shapes cs ns))
+    (counts_within vs ns ≡ true) × (options_within vs ≡ true) × (is_sound (verdict (roles_of vs) (shapes cs ns)) ≡ true) × (m ≡ mentions_of (length (roles_of vs)) (shapes cs ns))
 unfolding check_says
 accepted vs ns cs m e =
     let a = passed (counts_within vs ns) _ _ m e in
@@ -47,7 +47,7 @@ within : (vs : Variables) (ns : List Node) → counts_within vs ns ≡ true → 
 within vs ns c o =
     let a = and_parts (leb 1 vs.count) (leb 1 (length ns) && leb (length ns) 4096) c in
     let b = and_parts (leb 1 (length ns)) (leb (length ns) 4096) a.1 in
-    record { some_variable = leb-true 1 vs.count a.0; few_options = leb-true (options (listed vs)) 20 o; some_node = leb-true 1 (length ns) b.0; few_nodes = leb-true (length ns) 4096 b.1 }
+    record { some_variable = leb-true 1 vs.count a.0; few_options = leb-true (option_count (listed vs)) 20 o; some_node = leb-true 1 (length ns) b.0; few_nodes = leb-true (length ns) 4096 b.1 }
 
 counts : (vs : Variables) (ns : List Node) → Within vs ns → counts_within vs ns ≡ true
 counts vs ns w = and_from (leb 1 vs.count) _ (le-leb 1 vs.count w.some_variable) (and_from (leb 1 (length ns)) _ (le-leb 1 (length ns) w.some_node) (le-leb (length ns) 4096 w.few_nodes))
@@ -63,7 +63,7 @@ module _ (vs : Variables) (ns : List Node) (cs : List ℕ) where
   to_yes : Within vs ns → verdict (roles_of vs) (shapes cs ns) ≡ sound → is_ok (check_says vs ns cs) ≡ true
   unfolding check_says
   to_yes w e =
-      ap is_ok (cond-true (counts_within vs ns) _ _ (counts vs ns w) ∙ cond-true (options_within vs) _ _ (le-leb (options (listed vs)) 20 w.few_options) ∙ ap (answer_by (roles_of vs) (shapes cs ns)) e)
+      ap is_ok (cond-true (counts_within vs ns) _ _ (counts vs ns w) ∙ cond-true (options_within vs) _ _ (le-leb (option_count (listed vs)) 20 w.few_options) ∙ ap (answer_by (roles_of vs) (shapes cs ns)) e)
 
   -- the check says yes exactly if the limits hold and the circuit is what it should be
   pub yes_accepts : Decides (is_ok (check_says vs ns cs)) (Accepts vs ns cs)

@@ -13,15 +13,15 @@ module _ {F : Type 0} (R : Semiring F) where
   over [] w f = f w
   over (v ∷ vs) w f = R.sum (over vs (put w v true) f) (over vs (put w v false) f)
 
-  -- variable i has its on weight at place 2i-2 of the sheet, and its off weight at 2i-1
+  -- the weight of a side of variable v: the on weight stands at place 2v-2 of the sheet, the off weight at 2v-1
   abbrev pub weight : List F → ℕ → Bool → F
   weight sheet v b = slice_index_or sheet (cond b (2 * v - 2) (2 * v - 1)) R.zero
 
   -- the product of a scenario's weights
-  unfoldable pub scenario : List F → List ℕ → World → F
-  scenario sheet [] w = R.one
-  scenario sheet (v ∷ vs) w = R.product (weight sheet v (w v)) (scenario sheet vs w)
+  unfoldable pub scenario_weight : List F → List ℕ → World → F
+  scenario_weight sheet [] w = R.one
+  scenario_weight sheet (v ∷ vs) w = R.product (weight sheet v (w v)) (scenario_weight sheet vs w)
 
   -- the sum, over the scenarios that make the root true with the options as in w, of the product of the scenario's weights
   unfoldable pub figure : List Shape → List ℕ → List F → World → F
-  figure ss chances sheet w = over chances w (λ u. cond (satisfied ss u) (scenario sheet chances u) R.zero)
+  figure ss chances sheet w = over chances w (λ u. cond (satisfied ss u) (scenario_weight sheet chances u) R.zero)

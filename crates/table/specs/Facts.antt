@@ -2,7 +2,7 @@
 use Rattle.std.specs.Prelude.{◌≡◌, ℕ, ◌-◌, ◌<◌, ◌≤◌, Bool, true, false, ◌⊎◌, List, [], ◌∷◌, length, ◌≢◌, slice_index, slice_index_or}
 use Rattle.text.specs.declared.record.Node.{Node}
 use Rattle.text.specs.declared.record.Variables.{Variables}
-use Rattle.text.specs.Format.{options, listed}
+use Rattle.text.specs.Format.{option_count, listed}
 use Rattle.table.specs.Nodes.{shapes, roles_of}
 use Rattle.table.specs.Circuit.{Shape, lit, all, fork, bottom, World, Vars, upward, truth, mentions}
 use Rattle.table.specs.Sound.{Roles, chances, none, children}
@@ -21,13 +21,14 @@ abbrev pub about : List Shape → ℕ → Vars
 about ss i = slice_index_or (mentions ss) i none
 
 -- whether node i is true in a world
-abbrev pub holds : List Shape → World → ℕ → Bool
-holds ss w i = slice_index_or (upward (truth w) ss) i false
+abbrev pub true_at : List Shape → World → ℕ → Bool
+true_at ss w i = slice_index_or (upward (truth w) ss) i false
 
 -- each node's children come before it
 abbrev pub Ordered : List Shape → Type 0
 Ordered ss = (i c : ℕ) → Among c (children (node ss i)) → c < i
 
+-- v is the number of a variable
 abbrev pub Known : Roles → ℕ → Type 0
 Known rs v = (1 ≤ v) × (v ≤ length rs)
 
@@ -36,7 +37,7 @@ abbrev pub KnownVariables : Roles → List Shape → Type 0
 KnownVariables rs ss =
     ((i v : ℕ) (b : Bool) → node ss i ≡ lit v b → Known rs v) × ((i v a b : ℕ) → node ss i ≡ fork v a b → Known rs v)
 
--- no variable is mentioned by two children of an and
+-- decomposability: no variable is mentioned by two children of an and
 abbrev pub Decomposable : List Shape → Type 0
 Decomposable ss =
     (i : ℕ) (cs : List ℕ) → node ss i ≡ all cs → (j k : ℕ) → j < k → k < length cs →
@@ -50,7 +51,7 @@ HasLiteral ss v b i = (node ss i ≡ lit v b) ⊎ ((cs : List ℕ) × (c : ℕ) 
 abbrev pub Decisions : List Shape → Type 0
 Decisions ss = (i v a b : ℕ) → node ss i ≡ fork v a b → HasLiteral ss v true a × HasLiteral ss v false b
 
--- the branches of a fork mention the same chances
+-- smoothness in the chances: the branches of a fork mention the same
 abbrev pub Even : Roles → List Shape → Type 0
 Even rs ss = (i v a b : ℕ) → node ss i ≡ fork v a b → (x : ℕ) → Among x (chances rs) → about ss a x ≡ about ss b x
 
@@ -58,6 +59,7 @@ Even rs ss = (i v a b : ℕ) → node ss i ≡ fork v a b → (x : ℕ) → Amon
 abbrev pub Total : Roles → List Shape → Type 0
 Total rs ss = (x : ℕ) → Among x (chances rs) → about ss (length ss - 1) x ≡ true
 
+-- what a circuit has to be
 pub record Proper (rs : Roles) (ss : List Shape) : Type 0 where
   pub ordered : Ordered ss
   pub known_variables : KnownVariables rs ss
@@ -66,24 +68,25 @@ pub record Proper (rs : Roles) (ss : List Shape) : Type 0 where
   pub even : Even rs ss
   pub total : Total rs ss
 
--- in no world are both branches of a fork true
+-- determinism: in no world are both branches of a fork true
 abbrev pub Deterministic : List Shape → Type 0
-Deterministic ss = (w : World) (i v a b : ℕ) → node ss i ≡ fork v a b → holds ss w a ≡ true → holds ss w b ≢ true
+Deterministic ss = (w : World) (i v a b : ℕ) → node ss i ≡ fork v a b → true_at ss w a ≡ true → true_at ss w b ≢ true
 
 -- whether a node is true depends only on the variables that it mentions
 abbrev pub LocalTruth : List Shape → Type 0
-LocalTruth ss = (i : ℕ) (u w : World) → ((x : ℕ) → about ss i x ≡ true → u x ≡ w x) → holds ss u i ≡ holds ss w i
+LocalTruth ss = (i : ℕ) (u w : World) → ((x : ℕ) → about ss i x ≡ true → u x ≡ w x) → true_at ss u i ≡ true_at ss w i
 
--- what the check's yes is: the limits hold, and the circuit is what it should be
+-- the limits of a table
 pub record Within (vs : Variables) (ns : List Node) : Type 0 where
   pub some_variable : 1 ≤ vs.count
-  pub few_options : options (listed vs) ≤ 20
+  pub few_options : option_count (listed vs) ≤ 20
   pub some_node : 1 ≤ length ns
   pub few_nodes : length ns ≤ 4096
 
+-- what the check's yes says: the limits hold, and the circuit is what it has to be
 abbrev pub Accepts : Variables → List Node → List ℕ → Type 0
 Accepts vs ns cs = Within vs ns × Proper (roles_of vs) (shapes cs ns)
 
--- what that gives about meaning
+-- what that gives: the circuit is deterministic, and a node's truth depends only on the variables that it mentions
 abbrev pub Means : Variables → List Node → List ℕ → Type 0
 Means vs ns cs = Deterministic (shapes cs ns) × LocalTruth (shapes cs ns)

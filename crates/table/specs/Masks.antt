@@ -2,36 +2,28 @@
 use Rattle.std.specs.Prelude.{◌≡◌, ℕ, ◌+◌, ◌-◌, ◌*◌, ◌^◌, Bool, true, false, cond, not, ◌&&◌, List, [], ◌∷◌, ◌++◌, map, replicate, length, None, Option, ◌==◌, bit_and, bit_or, nat_lt, slice_index_or}
 use Rattle.std.specs.List.{list_all}
 use Rattle.text.specs.declared.record.Form.{Form}
-use Rattle.text.specs.declared.record.Form.TheVariants.{Literal, And, Fork, True, False}
+use Rattle.text.specs.declared.record.Form.TheVariants.{Literal}
 use Rattle.text.specs.declared.record.Node.{Node}
-use Rattle.text.specs.declared.record.Role.{Role}
-use Rattle.text.specs.declared.record.Role.TheVariants as role
 use Rattle.table.specs.declared.fault.Flaw.{Flaw}
 use Rattle.table.specs.declared.fault.Flaw.TheVariants as flaw
 use Rattle.table.specs.declared.known.NodeSets.{NodeSets}
 use Rattle.table.specs.declared.mentions.Mentions.{Mentions}
-use Rattle.table.specs.Circuit.{Shape, lit, all, fork, top, bottom}
-use Rattle.table.specs.Sound.{Roles, known, is_option, unless}
+use Rattle.table.specs.Circuit.{Shape, lit, all, fork}
+use Rattle.table.specs.Sound.{Roles, known, is_below, is_option, unless}
 
-abbrev pub under : ℕ → ℕ → Bool
-under n c = nat_lt c n
-
--- a variable's set
+-- the set of one variable, as a number
 abbrev pub bit : ℕ → ℕ
 bit v = 2 ^ (v - 1)
 
+-- whether a variable is in a set
 abbrev pub has_bit : ℕ → ℕ → Bool
 has_bit v set = not ((bit_and set (bit v)) == 0)
 
--- the options
+-- the set of the options
 abbrev pub OptionSet : Roles → ℕ → Type 0
 OptionSet rs set = (v : ℕ) → known (length rs) v ≡ true → has_bit v set ≡ is_option rs v
 
-abbrev pub chance_bit : Role → ℕ
-chance_bit role.Option = 0
-chance_bit role.Chance = 1
-
--- the chances
+-- the set of the chances
 unfoldable pub chance_mask : Roles → ℕ
 chance_mask [] = 0
 chance_mask (r ∷ rs) = chance_mask rs * 2 + cond r 0 1
@@ -47,8 +39,8 @@ apart_masks seen before (c ∷ cs) =
     bit_and seen (slice_index_or before c nothing).mentions == 0 && apart_masks (bit_or seen (slice_index_or before c nothing).mentions) before cs
 
 -- what a read past the nodes would give
-abbrev pub blank : Node
-blank = record { form = Literal 0 false; first = 0; count = 0 }
+abbrev pub no_record : Node
+no_record = record { form = Literal 0 false; first = 0; count = 0 }
 
 -- a literal mentions its variable, and has its own literal
 abbrev pub literal_sets : ℕ → Bool → NodeSets
@@ -57,20 +49,17 @@ literal_sets v on = record { mentions = bit v; on = cond on (bit v) 0; off = con
 -- an and mentions what its children mention, and has their literals if they are literals: `seen`, with one child more
 abbrev pub with_child : NodeSets → Form → NodeSets → NodeSets
 with_child seen (Literal v on) child = record { mentions = bit_or seen.mentions child.mentions; on = bit_or seen.on child.on; off = bit_or seen.off child.off }
-with_child seen And child = record { mentions = bit_or seen.mentions child.mentions; on = seen.on; off = seen.off }
-with_child seen (Fork v) child = record { mentions = bit_or seen.mentions child.mentions; on = seen.on; off = seen.off }
-with_child seen True child = record { mentions = bit_or seen.mentions child.mentions; on = seen.on; off = seen.off }
-with_child seen False child = record { mentions = bit_or seen.mentions child.mentions; on = seen.on; off = seen.off }
+with_child seen f child = record { mentions = bit_or seen.mentions child.mentions; on = seen.on; off = seen.off }
 
 -- `seen`, with the nodes cs more
 abbrev pub with_children : NodeSets → List Node → List NodeSets → List ℕ → NodeSets
 with_children seen ns before [] = seen
 with_children seen ns before (c ∷ cs) =
-    with_children (with_child seen (slice_index_or ns c blank).form (slice_index_or before c nothing)) ns before cs
+    with_children (with_child seen (slice_index_or ns c no_record).form (slice_index_or before c nothing)) ns before cs
 
 -- the first flaw of an and of the nodes cs
 abbrev pub and_flaw : List NodeSets → List ℕ → Option Flaw
-and_flaw before cs = unless (list_all (under (length before)) cs) flaw.Order (unless (apart_masks 0 before cs) flaw.Shared None)
+and_flaw before cs = unless (list_all (is_below (length before)) cs) flaw.Order (unless (apart_masks 0 before cs) flaw.Shared None)
 
 -- the first flaw of a fork, with n variables, the set of the chances, and what is known of the nodes before it
 abbrev pub fork_flaw : (n chances : ℕ) (before : List NodeSets) (v a b : ℕ) → Option Flaw
@@ -85,24 +74,21 @@ abbrev pub flaw_by : (n chances : ℕ) (before : List NodeSets) → Shape → Op
 flaw_by n chances before (lit v b) = unless (known n v) flaw.Variable None
 flaw_by n chances before (all cs) = and_flaw before cs
 flaw_by n chances before (fork v a b) = fork_flaw n chances before v a b
-flaw_by n chances before top = None
-flaw_by n chances before bottom = None
+flaw_by n chances before s = None
 
 -- whether a literal is of one of n variables, and the children are among the first i nodes
 abbrev pub steady : (n i : ℕ) → Shape → Bool
 steady n i (lit v b) = known n v
-steady n i (all cs) = list_all (under i) cs
+steady n i (all cs) = list_all (is_below i) cs
 steady n i (fork v a b) = nat_lt a i && nat_lt b i
-steady n i top = true
-steady n i bottom = true
+steady n i s = true
 
 -- the sets of a node, by those of the nodes before it
 abbrev pub sets_by : List Node → List NodeSets → Shape → NodeSets
 sets_by ns before (lit v on) = literal_sets v on
 sets_by ns before (all cs) = with_children nothing ns before cs
 sets_by ns before (fork v a b) = record { mentions = bit_or (slice_index_or before a nothing).mentions (slice_index_or before b nothing).mentions; on = 0; off = 0 }
-sets_by ns before top = nothing
-sets_by ns before bottom = nothing
+sets_by ns before s = nothing
 
 -- what each node mentions, with zeros behind the last node
 abbrev pub mentions_in : List NodeSets → Mentions

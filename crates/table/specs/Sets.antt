@@ -13,11 +13,5 @@ abbrev pub mask : ℕ → Vars → ℕ
 mask n m = packed 1 m n
 
 -- what each node mentions, of n variables, with zeros behind the last node
-abbrev pub masks : ℕ → List Shape → List ℕ
-masks n ss = map (mask n) (mentions ss)
-
-abbrev pub padded : ℕ → List Shape → List ℕ
-padded n ss = masks n ss ++ replicate (4096 - length ss) 0
-
 abbrev pub mentions_of : ℕ → List Shape → Mentions
-mentions_of n ss = record { sets = padded n ss }
+mentions_of n ss = record { sets = map (mask n) (mentions ss) ++ replicate (4096 - length ss) 0 }

@@ -1,14 +1,15 @@
 -- Which circuits are sound: the refusals of a node, and the first that fits. Assumes nothing.
-use Rattle.std.specs.Prelude.{ℕ, zero, suc, ◌+◌, ◌-◌, Bool, true, false, cond, not, ◌&&◌, ltb, List, [], ◌∷◌, length, Some, None, Option, ◌==◌, nat_le, nat_lt, slice_index_or}
-use Rattle.std.specs.List.{list_all, list_any}
+use Rattle.std.specs.Prelude.{ℕ, ◌+◌, ◌-◌, Bool, true, false, cond, not, ◌&&◌, List, [], ◌∷◌, length, Some, None, Option, ◌==◌, nat_le, nat_lt, slice_index_or}
+use Rattle.std.specs.List.{list_all, list_any, range_with_len}
 use Rattle.table.specs.declared.fault.Flaw.{Flaw}
 use Rattle.table.specs.declared.fault.Flaw.TheVariants as flaw
-use Rattle.table.specs.Circuit.{Shape, lit, all, fork, top, bottom, Vars, same, mentions}
+use Rattle.table.specs.Circuit.{Shape, lit, all, fork, bottom, Vars, same, mentions}
 
 -- whether each of the variables, by number from 1, is an option; the others are chances
 abbrev pub Roles : Type 0
 Roles = List Bool
 
+-- whether variable v is an option
 abbrev pub is_option : Roles → ℕ → Bool
 is_option [] v = false
 is_option (r ∷ rs) v = cond (v == 1) r (is_option rs (v - 1))
@@ -16,10 +17,7 @@ is_option (r ∷ rs) v = cond (v == 1) r (is_option rs (v - 1))
 -- the numbers of those variables, from number i on, whose role is b
 abbrev pub from : ℕ → Bool → Roles → List ℕ
 from i b [] = []
-from i true (true ∷ rs) = i ∷ from (i + 1) true rs
-from i true (false ∷ rs) = from (i + 1) true rs
-from i false (true ∷ rs) = from (i + 1) false rs
-from i false (false ∷ rs) = i ∷ from (i + 1) false rs
+from i b (r ∷ rs) = cond (same r b) (i ∷ from (i + 1) b rs) (from (i + 1) b rs)
 
 -- the options and the chances, by rising number
 abbrev pub options : Roles → List ℕ
@@ -33,51 +31,43 @@ abbrev pub none : Vars
 none = λ _. false
 
 -- whether a node is the literal of v that is on (or off)
-abbrev pub is_leaf : ℕ → Bool → Shape → Bool
-is_leaf v b (lit x on) = x == v && same on b
-is_leaf v b (all cs) = false
-is_leaf v b (fork x p q) = false
-is_leaf v b top = false
-is_leaf v b bottom = false
+abbrev pub is_literal : ℕ → Bool → Shape → Bool
+is_literal v b (lit x on) = x == v && same on b
+is_literal v b s = false
 
--- a branch has a literal if it is that leaf, or an and with that leaf among its children
-abbrev pub has_leaf : List Shape → ℕ → Bool → Shape → Bool
-has_leaf ss v b (lit x on) = is_leaf v b (lit x on)
-has_leaf ss v b (all cs) = list_any (λ c. is_leaf v b (slice_index_or ss c bottom)) cs
-has_leaf ss v b (fork x p q) = false
-has_leaf ss v b top = false
-has_leaf ss v b bottom = false
+-- whether a node is that literal, or an and with that literal among its children
+abbrev pub has_literal : List Shape → ℕ → Bool → Shape → Bool
+has_literal ss v b (all cs) = list_any (λ c. is_literal v b (slice_index_or ss c bottom)) cs
+has_literal ss v b s = is_literal v b s
 
--- the numbers i to i + n - 1
-abbrev pub up_to : ℕ → ℕ → List ℕ
-up_to i zero = []
-up_to i (suc n) = i ∷ up_to (i + 1) n
-
--- no variable of vs is in both sets
+-- whether no variable of vs is in both sets
 abbrev pub disjoint : List ℕ → Vars → Vars → Bool
 disjoint vs a b = list_all (λ v. not (a v && b v)) vs
 
--- no two of the nodes cs mention one variable of vs
+-- whether the nodes cs are decomposable: no two of them mention one variable of vs
 abbrev pub apart : List ℕ → List Vars → List ℕ → Bool
 apart vs ms [] = true
 apart vs ms (c ∷ cs) = list_all (λ d. disjoint vs (slice_index_or ms c none) (slice_index_or ms d none)) cs && apart vs ms cs
 
--- on vs the two sets are one
+-- whether two sets have the same variables of vs
 abbrev pub alike : List ℕ → Vars → Vars → Bool
 alike vs a b = list_all (λ v. same (a v) (b v)) vs
 
+-- the nodes that a node stands on
 abbrev pub children : Shape → List ℕ
-children (lit v b) = []
 children (all cs) = cs
 children (fork v a b) = a ∷ b ∷ []
-children top = []
-children bottom = []
+children s = []
+
+-- whether c is one of the first n nodes
+abbrev pub is_below : ℕ → ℕ → Bool
+is_below n c = nat_lt c n
 
 -- whether v is the number of one of n variables
 abbrev pub known : ℕ → ℕ → Bool
 known n v = nat_lt 0 v && nat_le v n
 
--- a flaw unless a test holds; the first one wins
+-- a flaw unless a test holds, else what follows
 abbrev pub unless : Bool → Flaw → Option Flaw → Option Flaw
 unless ok f rest = cond ok rest (Some f)
 
@@ -96,23 +86,23 @@ flaw_first i None rest = rest
 flaw_first i (Some f) rest = flawed f i
 
 module _ (rs : Roles) (ss : List Shape) where
-  -- node i, with the sets ms of what the nodes mention: its first flaw
+  -- the first flaw of node i, with the sets ms of what the nodes mention
   abbrev pub flaw_at : List Vars → ℕ → Shape → Option Flaw
   flaw_at ms i (lit v b) = unless (known (length rs) v) flaw.Variable None
   flaw_at ms i (all cs) =
-      unless (list_all (λ c. ltb c i) cs) flaw.Order (unless (apart (up_to 1 (length rs)) ms cs) flaw.Shared None)
+      unless (list_all (is_below i) cs) flaw.Order (unless (apart (range_with_len 1 (length rs)) ms cs) flaw.Shared None)
   flaw_at ms i (fork v a b) =
       unless (nat_lt a i && nat_lt b i) flaw.Order
       (unless (known (length rs) v) flaw.Variable
-      (unless (has_leaf ss v true (slice_index_or ss a bottom) && has_leaf ss v false (slice_index_or ss b bottom)) flaw.Branch
+      (unless (has_literal ss v true (slice_index_or ss a bottom) && has_literal ss v false (slice_index_or ss b bottom)) flaw.Branch
       (unless (alike (chances rs) (slice_index_or ms a none) (slice_index_or ms b none)) flaw.Uneven None)))
-  flaw_at ms i top = None
-  flaw_at ms i bottom = None
+  flaw_at ms i s = None
 
   -- the first flaw of the nodes in order, from node i on; the root, which is last, must mention every chance
   unfoldable pub verdict_from : List Vars → ℕ → List Shape → Verdict
   verdict_from ms i [] = cond (list_all (slice_index_or ms (length ss - 1) none) (chances rs)) sound (flawed flaw.Missing (length ss - 1))
   verdict_from ms i (x ∷ xs) = flaw_first i (flaw_at ms i x) (verdict_from ms (i + 1) xs)
 
+  -- the circuit is sound, or its first flaw
   abbrev pub verdict : Verdict
   verdict = verdict_from (mentions ss) 0 ss

@@ -1,9 +1,10 @@
 //! Sets of variables as numbers: bit v - 1 is variable v.
-ghost use Rattle.std.specs.Prelude.{◌≡◌, ◌<◌, ◌≤◌, true, length, slice_index_or};
+ghost use Rattle.std.specs.Prelude.{◌≡◌, ◌<◌, ◌≤◌, true, cond, length, slice_index_or};
 ghost use Rattle.std.specs.List.{list_all};
-ghost use Rattle.table.specs.Sound.{known};
+ghost use Rattle.text.specs.Format.{is_option_role};
+ghost use Rattle.table.specs.Sound.{known, is_below};
 ghost use Rattle.table.specs.Nodes.{no_node, stretch, roles_of};
-ghost use Rattle.table.specs.Masks.{under, bit, has_bit, chance_bit, chance_mask, apart_masks, nothing, literal_sets, with_child, with_children};
+ghost use Rattle.table.specs.Masks.{bit, has_bit, chance_mask, apart_masks, nothing, literal_sets, with_child, with_children};
 
 use crate::known::NodeSets;
 use text::record::{Form, Node, Role, Variables};
@@ -50,21 +51,21 @@ pub(crate) fn chance_set(variables: &Variables) -> u64
 
 /// 1 for a chance.
 fn chance_bit(role: Role) -> u64
-    ensures { result ≡ chance_bit role }
+    ensures { result ≡ cond (is_option_role role) 0 1 }
 {
     u64::from(matches!(role, Role::Chance))
 }
 
 /// Whether each child's number is below the node's.
 pub(crate) fn all_below(children: &[u16], node: usize) -> bool
-    ensures { result ≡ list_all (under node) children.now }
+    ensures { result ≡ list_all (is_below node) children.now }
 {
     children.iter().all(|c| (*c as usize) < node)
 }
 
 /// Whether no two children mention one variable.
 pub(crate) fn all_apart(children: &[u16], before: &[NodeSets]) -> bool
-    requires { list_all (under (length before.now)) children.now ≡ true }
+    requires { list_all (is_below (length before.now)) children.now ≡ true }
     ensures { result ≡ apart_masks 0 before.now children.now }
 {
     // A loop, and no `all`: its test would have to change what was seen.
@@ -95,7 +96,7 @@ impl NodeSets {
 
     /// What is known of an and.
     pub(crate) fn of_and(children: &[u16], nodes: &[Node], before: &[NodeSets]) -> NodeSets
-        requires below { list_all (under (length before.now)) children.now ≡ true }
+        requires below { list_all (is_below (length before.now)) children.now ≡ true }
         requires within { length before.now ≤ length nodes.now }
         ensures { result ≡ with_children nothing nodes.now before.now children.now }
     {

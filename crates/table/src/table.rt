@@ -2,7 +2,7 @@
 ghost use Rattle.std.specs.Prelude.{◌≡◌, true, length};
 ghost use Rattle.table.specs.Sound.{is_sound, verdict};
 ghost use Rattle.table.specs.Nodes.{shapes, roles_of};
-ghost use Rattle.table.specs.Sets.{padded};
+ghost use Rattle.table.specs.Sets.{mentions_of};
 ghost use Rattle.table.specs.Check.{counts_within, options_within};
 
 use crate::mentions::Mentions;
@@ -19,5 +19,5 @@ pub struct Table<'a> {
     ghost counts: { counts_within variables nodes.now ≡ true },
     ghost few: { options_within variables ≡ true },
     ghost sound: { is_sound (verdict (roles_of variables) (shapes children.now nodes.now)) ≡ true },
-    ghost mentioned: { mentions.sets ≡ padded (length (roles_of variables)) (shapes children.now nodes.now) },
+    ghost mentioned: { mentions ≡ mentions_of (length (roles_of variables)) (shapes children.now nodes.now) },
 }

@@ -1,6 +1,5 @@
 //! What a checked table says.
 use crate::large::large;
-use crate::stores::read;
 use plants::files::PLANT;
 use plants::stores::Stores;
 use std::process::Abort;
@@ -106,9 +105,9 @@ fn check_asked(
 
 #[test]
 fn asked(rt: HostRuntime) -> Result<(), Fail> {
-    let plant = read(PLANT, rt.alloc())?;
+    let plant = Stores::read(PLANT, rt.alloc())?;
     check_asked(&rt, &plant, PLANT_MENTIONS, PLANT_KNOWN, "plant K")?;
     let text = large(rt.alloc())?;
-    let largest = read(text.as_str(), rt.alloc())?;
+    let largest = Stores::read(text.as_str(), rt.alloc())?;
     check_asked(&rt, &largest, LARGE_MENTIONS, LARGE_KNOWN, "the largest")
 }

@@ -1,5 +1,4 @@
 //! What a file is read into, and what the check makes of it.
-use parts::stores::Room;
 use plants::stores::Stores;
 use std::alloc::Global;
 use std::fmt::Display;
@@ -8,28 +7,11 @@ use std::test::Fail;
 use table::check::check as check_table;
 use table::mentions::Mentions;
 use text::fault::Layer;
-use text::record::{Form, Node, Variables};
+use text::record::{Node, Variables};
 use text::refusal::Refusal;
 
 /// What the check should answer: the first nodes' sets of variables, or a refusal's number and place.
 pub type Due<'a> = Result<&'a [u64], (u8, usize)>;
-
-/// Stores with marks in them, which would show where the reader leaves a place unwritten.
-const MARKED: Room = Room {
-    nodes: 4096,
-    children: 12288,
-    node: Node {
-        form: Form::And,
-        first: 901,
-        count: 902,
-    },
-    child: 903,
-};
-
-/// A file's parts, from marked stores.
-pub(crate) fn read(file: &str, heap: Global) -> Result<Stores, Fail> {
-    Stores::read_into(file, &MARKED, heap)
-}
 
 /// The file is read, and the check of its parts answers this.
 pub(crate) fn check_file(
@@ -39,7 +21,7 @@ pub(crate) fn check_file(
     heap: Global,
     case: &impl Display,
 ) -> Result<(), Fail> {
-    let stores = read(file, heap)?;
+    let stores = Stores::read(file, heap)?;
     check_answer(
         rt,
         stores.nodes.as_slice(),

@@ -1,12 +1,12 @@
 -- Digits read one by one, and a number's text. Assumes nothing.
-use Rattle.std.proofs.Common.{◌≡◌, ℕ, ◌+◌, ◌-◌, ◌*◌, ◌^◌, ◌<◌, ◌≤◌, Bool, true, false, cond, ◌&&◌, leb, List, [], ◌∷◌, length, get_or, drop, Some, None, decimal, Option, sym, refl, ap, ◌∙◌, inl, inr, arith, rules}
+use Rattle.std.proofs.Common.{◌≡◌, ◌↔◌, ℕ, ◌+◌, ◌-◌, ◌*◌, ◌^◌, ◌<◌, ◌≤◌, Bool, true, false, cond, ◌&&◌, leb, List, [], ◌∷◌, length, get_or, drop, Some, None, decimal, Option, sym, refl, ap, ◌∙◌, inl, inr, arith, rules}
 use Rattle.std.specs.Str.{all_ascii_digits}
 use Rattle.std.proofs.lemmas.Bool.{leb-true, le-leb, and_parts, and_from, cond-true, cases_eq}
 use Rattle.std.proofs.lemmas.List.{at_drop_more, at_drop_all}
 use Rattle.std.proofs.lemmas.Bool.Decides.{nat_tests}
 use Rattle.std.proofs.lemmas.Str.Parse.{IsNumeralModel, numerals_by_fold, tells_all_ascii_digits}
 use Rattle.std.proofs.lemmas.Fmt.{decimal-digits_value, digits_value-decimal, digits_decimal, length-decimal-le, decimal_nonempty, first_decimal, decimal_digit}
-use Rattle.text.specs.Numerals.{value_on, digits_upto, numeral_shaped, numeral}
+use Rattle.text.specs.Numerals.{value_on, digits_upto, numeral_shaped, numeral, IsTextOf}
 
 -- more digits write no lower number
 value_on_le : (n : ℕ) (ds : List ℕ) → n ≤ value_on n ds
@@ -39,6 +39,12 @@ numeral_le most cap n ds e =
     let upto = (some_if (numeral_shaped most ds) (digits_upto cap 0 ds) n e).1 in
     grind (arith, nat_tests)
 
+numeral_short : (most cap n : ℕ) (ds : List ℕ) → numeral most cap ds ≡ Some n → length ds ≤ most
+unfolding numeral
+numeral_short most cap n ds e =
+    let shaped = (some_if (numeral_shaped most ds) (digits_upto cap 0 ds) n e).0 in
+    grind (arith, nat_tests)
+
 numerals : IsNumeralModel (λ ds. all_ascii_digits ds ≡ true) (value_on 0)
 numerals = numerals_by_fold _ tells_all_ascii_digits value_on (search rules)
 
@@ -59,12 +65,15 @@ plain_decimal n fits e = elim (cases_eq n 0) [
 ]
 
 -- the text of a number is read as the number
-pub numeral_decimal : (most cap n : ℕ) → n ≤ cap → n < 10 ^ most → 0 < most → n < 2 ^ 64 → numeral most cap (decimal n) ≡ Some n
+read_decimal : (most cap n : ℕ) → n ≤ cap → length (decimal n) ≤ most → n < 2 ^ 64 → numeral most cap (decimal n) ≡ Some n
 unfolding numeral
-numeral_decimal most cap n low short some fits =
-    let shaped = shaped_from most (decimal n) (decimal_nonempty n fits) (length-decimal-le most n some short fits) (plain_decimal n fits) in
+read_decimal most cap n low short fits =
+    let shaped = shaped_from most (decimal n) (decimal_nonempty n fits) short (plain_decimal n fits) in
     let digits = and_from (all_ascii_digits (decimal n)) (leb (value_on 0 (decimal n)) cap) (digits_decimal numerals n fits) (le-leb (value_on 0 (decimal n)) cap (rw (digits_value-decimal numerals n fits) low)) in
     cond-true _ _ _ shaped ∙ cond-true _ _ _ digits ∙ ap Some (digits_value-decimal numerals n fits)
+
+pub numeral_decimal : (most cap n : ℕ) → n ≤ cap → n < 10 ^ most → 0 < most → n < 2 ^ 64 → numeral most cap (decimal n) ≡ Some n
+numeral_decimal most cap n low short some fits = read_decimal most cap n low (length-decimal-le most n some short fits) fits
 
 -- and no other text is
 pub decimal_numeral : (most cap n : ℕ) (ds : List ℕ) → cap < 2 ^ 64 → numeral most cap ds ≡ Some n → ds ≡ decimal n
@@ -76,3 +85,10 @@ decimal_numeral most cap n ds fits e =
     let value : value_on 0 ds ≡ n = cc inner.1 in
     let shape = shaped_parts most ds outer.0 in
     sym (decimal-digits_value numerals ds parts.0 shape.0 shape.1 (omega (arith, leb-true _ _ parts.1))) ∙ ap decimal value
+
+-- a field is read as a number exactly if it is the number's text
+pub exact_from : (most cap : ℕ) (f : List ℕ) (r : Option ℕ) → cap < 2 ^ 64 → r ≡ numeral most cap f → (n : ℕ) → (r ≡ Some n) ↔ IsTextOf most cap n f
+exact_from most cap f r fits is n = (
+  (λ e. let told = sym is ∙ e in (decimal_numeral most cap n f fits told, numeral_short most cap n f told, numeral_le most cap n f told)),
+  (λ h. let short : length (decimal n) ≤ most = omega (arith, ap length h.0, h.1) in is ∙ ap (numeral most cap) h.0 ∙ read_decimal most cap n h.2 short (omega arith)),
+)

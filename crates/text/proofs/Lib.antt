@@ -7,5 +7,6 @@ pub mod Limits
 pub mod Sections
 pub mod Runs
 pub mod Printable
+pub mod Counts
 pub mod Filled
 pub mod Printed

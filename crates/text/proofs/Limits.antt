@@ -26,6 +26,7 @@ then_ok (Err r) f y e = never r y e
 
 pub record Limits (rooms : Rooms) (h : Header) : Type 0 where
   pub variables : h.variables ≤ 64
+  pub some_node : 1 ≤ h.nodes
   pub children : h.children ≤ 12288
   pub room_nodes : h.nodes ≤ rooms.nodes
   pub room_children : h.children ≤ rooms.children
@@ -35,14 +36,12 @@ limits_of rooms v n k w r =
     let a = and_parts (leb 1 v && leb v 64 && (leb 1 n && leb n 4096)) (leb k 12288) w in
     let b = and_parts (leb 1 v && leb v 64) (leb 1 n && leb n 4096) a.0 in
     let c = and_parts (leb 1 v) (leb v 64) b.0 in
+    let m = and_parts (leb 1 n) (leb n 4096) b.1 in
     let d = and_parts (leb n rooms.nodes) (leb k rooms.children) r in
-    record { variables = leb-true v 64 c.1; children = leb-true k 12288 a.1; room_nodes = leb-true n _ d.0; room_children = leb-true k _ d.1 }
+    record { variables = leb-true v 64 c.1; some_node = leb-true 1 n m.0; children = leb-true k 12288 a.1; room_nodes = leb-true n _ d.0; room_children = leb-true k _ d.1 }
 
 pub header_limits : (rooms : Rooms) (fs : List (List ℕ)) (h : Header) → header_says rooms fs ≡ Ok h → Limits rooms h
 unfolding header_says
-header_limits rooms [] h e = never reason.Line h e
-header_limits rooms (a ∷ []) h e = never reason.Line h e
-header_limits rooms (a ∷ b ∷ []) h e = never reason.Line h e
 header_limits rooms (a ∷ b ∷ c ∷ []) h e =
     let p = then_ok (number_field a) _ h e in
     let q = then_ok (number_field b) _ h p.2 in
@@ -50,7 +49,7 @@ header_limits rooms (a ∷ b ∷ c ∷ []) h e =
     let t = provided_ok (within_limits p.0 q.0 s.0) reason.Limit _ h s.2 in
     let u = provided_ok (leb q.0 rooms.nodes && leb s.0 rooms.children) reason.Store _ h t.1 in
     subst (Limits rooms) (same_ok _ _ u.1) (limits_of rooms p.0 q.0 s.0 t.0 u.0)
-header_limits rooms (a ∷ b ∷ c ∷ d ∷ fs) h e = never reason.Line h e
+header_limits rooms fs h e = never reason.Line h e
 
 -- what `map_err` was given, by what it gave
 module _ {T E F : Type 0} (r : Result T E) (q : Result T F) (P : E → F → Type 0) (by : MatchResult r (λ x. q ≡ Ok x) (λ e. IsErrAnd q (P e))) where

@@ -1,18 +1,20 @@
 -- The names of an accepted file are printable. Assumes nothing.
-use Rattle.std.proofs.Common.{◌≡◌, ℕ, zero, suc, ◌+◌, ◌≤◌, min, Bool, true, false, cond, not, ◌&&◌, eqb, leb, List, [], ◌∷◌, ◌++◌, length, take, replicate, Some, None, Ok, Err, Option, Result, refl, ap, ◌∙◌, subst, arith}
+use Rattle.std.proofs.Common.{◌≡◌, ℕ, zero, suc, ◌+◌, ◌≤◌, min, Bool, true, false, cond, not, ◌&&◌, eqb, leb, List, [], ◌∷◌, ◌++◌, length, take, replicate, Ok, Err, Result, refl, ap, ◌∙◌, subst, arith}
 use Rattle.std.specs.List.{onto_first, list_all}
+use Rattle.std.specs.Option.{ok_or}
 use Rattle.std.proofs.lemmas.Bool.{and_parts, and_from, leb-true}
 use Rattle.text.specs.declared.fault.Fault.{Fault}
 use Rattle.text.specs.declared.fault.Fault.TheVariants as fault
 use Rattle.text.specs.declared.fault.Reason.TheVariants as reason
 use Rattle.text.specs.declared.kind.Kind.{Kind}
+use Rattle.text.specs.declared.kind.Kind.TheVariants as kind
 use Rattle.text.specs.declared.kind.Section.{Section}
 use Rattle.text.specs.declared.kind.Section.TheVariants as section
 use Rattle.text.specs.declared.record.Contents.{Contents}
 use Rattle.text.specs.declared.record.Role.{Role}
 use Rattle.text.specs.declared.record.Variable.{Variable}
 use Rattle.text.specs.Lines.{printable, lines, fields}
-use Rattle.text.specs.Format.{Said, Rooms, Sofar, Reading, number_field, role_of, blank, listed, is_named, one_if_option, options, follows_rules, said_variable, header_says, variable_says, entry_says, fitting, is_header, is_variable, section_at, kind_of, by_section, by_fields, line_says, is_complete, accepted, refused, read_on, nothing_yet, file_says, named_printable}
+use Rattle.text.specs.Format.{Said, Rooms, Sofar, Reading, number_field, role_of, blank, listed, is_named, is_option_role, option_count, follows_rules, header_says, variable_says, node_says, fitting, section_at, kind_of, by_section, by_fields, line_says, is_complete, accepted, refused, read_on, nothing_yet, file_says, named_printable}
 use Rattle.text.proofs.Limits.{never, same_ok, provided_ok, then_ok}
 use Rattle.text.proofs.Names.{spelled_name_of}
 
@@ -51,44 +53,39 @@ fields_printable (x ∷ xs) h =
 -- a variable line with printable fields gives a printable name
 rules_short : (before : List Variable) (n : ℕ) (r : Role) (name : List ℕ) → follows_rules before n r name ≡ true → length name ≤ 24
 rules_short before n r name h =
-    let a = and_parts (eqb n (length before + 1) && (leb 1 (length name) && leb (length name) 24) && not (is_named name before)) (leb (options before + one_if_option r) 20) h in
+    let a = and_parts (eqb n (length before + 1) && (leb 1 (length name) && leb (length name) 24) && not (is_named name before)) (leb (option_count before + cond (is_option_role r) 1 0) 20) h in
     let b = and_parts (eqb n (length before + 1) && (leb 1 (length name) && leb (length name) 24)) (not (is_named name before)) a.0 in
     let c = and_parts (eqb n (length before + 1)) (leb 1 (length name) && leb (length name) 24) b.0 in
     leb-true (length name) 24 (and_parts (leb 1 (length name)) (leb (length name) 24) c.1).1
 
-said_printable : (before : List Variable) (n : ℕ) (r : Option Role) (name : List ℕ) (v : Variable) → said_variable before n r name ≡ Ok v → list_all printable name ≡ true → named_printable v ≡ true
-said_printable before n None name v e h = never reason.Variable v e
-said_printable before n (Some r) name v e h =
-    let p = provided_ok (follows_rules before n r name) reason.Variable _ v e in
-    subst (λ x. named_printable x ≡ true) (same_ok _ _ p.1) (ap (list_all printable) (spelled_name_of name (rules_short before n r name p.0)) ∙ h)
-
 variable_printable : (before : List Variable) (fs : List (List ℕ)) (v : Variable) → variable_says before fs ≡ Ok v → list_all (list_all printable) fs ≡ true → named_printable v ≡ true
 unfolding variable_says
-variable_printable before [] v e h = never reason.Line v e
-variable_printable before (a ∷ []) v e h = never reason.Line v e
-variable_printable before (a ∷ b ∷ []) v e h = never reason.Line v e
 variable_printable before (a ∷ b ∷ c ∷ []) v e h =
     let p = then_ok (number_field a) _ v e in
+    let r = then_ok (ok_or (role_of b) reason.Variable) _ v p.2 in
+    let s = provided_ok (follows_rules before p.0 r.0 c) reason.Variable _ v r.2 in
     let q = and_parts (list_all printable a) (list_all (list_all printable) (b ∷ c ∷ [])) h in
-    let s = and_parts (list_all printable b) (list_all (list_all printable) (c ∷ [])) q.1 in
-    said_printable before p.0 (role_of b) c v p.2 (and_parts (list_all printable c) true s.1).0
-variable_printable before (a ∷ b ∷ c ∷ d ∷ fs) v e h = never reason.Line v e
+    let u = and_parts (list_all printable b) (list_all (list_all printable) (c ∷ [])) q.1 in
+    subst (λ x. named_printable x ≡ true) (same_ok _ _ s.1)
+    (ap (list_all printable) (spelled_name_of c (rules_short before p.0 r.0 c s.0)) ∙ (and_parts (list_all printable c) true u.1).0)
+variable_printable before fs v e h = never reason.Line v e
 
 -- an accepted line keeps the names printable
 module _ (rooms : Rooms) (s : Sofar) (size : ℕ) (t : Sofar) (good : list_all named_printable s.variables ≡ true) where
   section_printable : (at : Section) (k : Kind) (fs : List (List ℕ)) → list_all (list_all printable) fs ≡ true → by_section rooms s size at k fs ≡ Ok t → list_all named_printable t.variables ≡ true
-  section_printable section.Header k fs h e =
-      let p = then_ok (header_says rooms fs) _ t (provided_ok (is_header k) reason.Line _ t e).1 in
+  section_printable section.Header kind.Header fs h e =
+      let p = then_ok (header_says rooms fs) _ t e in
       subst (λ x. list_all named_printable x.variables ≡ true) (same_ok _ _ p.2) good
-  section_printable section.Variables k fs h e =
-      let p = then_ok (variable_says s.variables fs) _ t (provided_ok (is_variable k) reason.Line _ t e).1 in
+  section_printable section.Variables kind.Variable fs h e =
+      let p = then_ok (variable_says s.variables fs) _ t e in
       let new = variable_printable s.variables fs p.0 p.1 h in
       subst (λ x. list_all named_printable x.variables ≡ true) (same_ok _ _ p.2)
       (every_append named_printable s.variables (p.0 ∷ []) good (and_from (named_printable p.0) true new refl))
   section_printable section.Nodes k fs h e =
-      let p = then_ok (entry_says k fs) _ t e in
+      let p = then_ok (node_says k fs) _ t e in
       let q = provided_ok (fitting s.header (length s.nodes) (length s.children) (length p.0.children)) reason.Children _ t p.2 in
       subst (λ x. list_all named_printable x.variables ≡ true) (same_ok _ _ q.1) good
+  section_printable at k fs h e = never reason.Line t e
 
   by_printable : (fs : List (List ℕ)) → list_all (list_all printable) fs ≡ true → by_fields rooms s size fs ≡ Ok t → list_all named_printable t.variables ≡ true
   by_printable [] h e = never reason.Line t e

@@ -6,8 +6,7 @@ use Rattle.std.specs.Str.{IsUtf8}
 use Rattle.std.specs.Result.{MatchResult, result_unwrap_or}
 use Rattle.text.specs.Format.{spelled}
 use Rattle.text.specs.declared.record.Variable.{Variable}
-use Rattle.text.specs.Printed.{Lines, fields_onto, line_onto, text_of}
-use Rattle.text.specs.Shown.{PlainNames}
+use Rattle.text.specs.Printed.{Lines, fields_onto, line_onto, text_of, PlainNames}
 
 -- ASCII is UTF-8, so its text is the bytes themselves
 pub ascii_text : {X E : Type 0} (bytes : X → List ℕ) (V : E → Type 0) (bs : List ℕ) (r : Result X E) (other : X)

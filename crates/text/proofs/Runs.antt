@@ -8,30 +8,28 @@ use Rattle.text.specs.declared.fault.Reason.TheVariants as reason
 use Rattle.text.specs.declared.fault.Fault.{Fault}
 use Rattle.text.specs.declared.fault.Fault.TheVariants as fault
 use Rattle.text.specs.declared.kind.Kind.{Kind}
+use Rattle.text.specs.declared.kind.Kind.TheVariants as kind
 use Rattle.text.specs.declared.kind.Section.{Section}
 use Rattle.text.specs.declared.kind.Section.TheVariants as section
 use Rattle.text.specs.declared.progress.Progress.{Progress}
 use Rattle.text.specs.declared.record.Node.{Node}
 use Rattle.text.specs.declared.record.Contents.{Contents}
-use Rattle.text.specs.Lines.{printable, index_of, lines, fields}
-use Rattle.text.specs.Format.{Rooms, rooms_for, Sofar, Reading, header_says, variable_says, entry_says, fitting, is_header, is_variable, section_at, kind_of, all_read, is_complete, by_section, by_fields, line_says, accepted, refused, read_on, nothing_yet, file_says, overwritten}
+use Rattle.text.specs.Lines.{printable, lines, fields}
+use Rattle.text.specs.Format.{Rooms, rooms_for, Sofar, Reading, header_says, variable_says, node_says, fitting, section_at, kind_of, all_read, is_complete, by_section, by_fields, line_says, accepted, refused, read_on, nothing_yet, file_says, overwritten}
 use Rattle.text.specs.Steps.{sofar, rooms_of, Taken, first_says}
-use Rattle.text.proofs.Cuts.{cut}
+use Rattle.text.proofs.Cuts.{index_of, cut}
 use Rattle.text.proofs.Limits.{same_ok, same_err, provided_ok, then_ok, never}
 
 -- A line that is accepted ends at the next line's place.
 module _ (rooms : Rooms) (s : Sofar) (size : ℕ) (t : Sofar) where
   section_place : (at : Section) (k : Kind) (fs : List (List ℕ)) → by_section rooms s size at k fs ≡ Ok t → t.place ≡ s.place + (size + 1)
-  section_place section.Header k fs e =
-      let p = then_ok (header_says rooms fs) _ t (provided_ok (is_header k) reason.Line _ t e).1 in
-      sym (ap (λ x. x.place) (same_ok _ _ p.2))
-  section_place section.Variables k fs e =
-      let p = then_ok (variable_says s.variables fs) _ t (provided_ok (is_variable k) reason.Line _ t e).1 in
-      sym (ap (λ x. x.place) (same_ok _ _ p.2))
+  section_place section.Header kind.Header fs e = let p = then_ok (header_says rooms fs) _ t e in sym (ap (λ x. x.place) (same_ok _ _ p.2))
+  section_place section.Variables kind.Variable fs e = let p = then_ok (variable_says s.variables fs) _ t e in sym (ap (λ x. x.place) (same_ok _ _ p.2))
   section_place section.Nodes k fs e =
-      let p = then_ok (entry_says k fs) _ t e in
+      let p = then_ok (node_says k fs) _ t e in
       let q = provided_ok (fitting s.header (length s.nodes) (length s.children) (length p.0.children)) reason.Children _ t p.2 in
       sym (ap (λ x. x.place) (same_ok _ _ q.1))
+  section_place at k fs e = never reason.Line t e
 
   fields_place : (fs : List (List ℕ)) → by_fields rooms s size fs ≡ Ok t → t.place ≡ s.place + (size + 1)
   fields_place [] e = never reason.Line t e

@@ -10,7 +10,7 @@ use Rattle.text.specs.declared.kind.Section.{Section}
 use Rattle.text.specs.declared.kind.Section.TheVariants as section
 use Rattle.text.specs.declared.progress.Progress.{Progress}
 use Rattle.text.specs.Lines.{printable, fields}
-use Rattle.text.specs.Format.{Said, Rooms, Sofar, listed, section_at, kind_of, is_header, is_variable, by_section, by_fields, line_says}
+use Rattle.text.specs.Format.{Said, Rooms, Sofar, listed, section_at, kind_of, by_section, by_fields, line_says}
 use Rattle.text.specs.Steps.{sofar, rooms_of, says_in, says, Steps, Taken, HasStoresOf}
 use Rattle.text.proofs.Cuts.{some_field}
 
@@ -18,25 +18,13 @@ by_first : (rooms : Rooms) (s : Sofar) (size : ℕ) (fs : List (List ℕ)) → 1
 by_first rooms s size [] h = absurd (omega arith)
 by_first rooms s size (f ∷ fs) h = refl
 
-not_header : (k : Kind) → (k ≡ kind.Header → ⊥) → is_header k ≡ false
-not_header kind.Header h = absurd (h refl)
-not_header kind.Variable h = refl
-not_header kind.Literal h = refl
-not_header kind.And h = refl
-not_header kind.Fork h = refl
-not_header kind.True h = refl
-not_header kind.False h = refl
-not_header kind.Other h = refl
+not_header : (rooms : Rooms) (s : Sofar) (size : ℕ) (k : Kind) (fs : List (List ℕ)) → (k ≡ kind.Header → ⊥) → by_section rooms s size section.Header k fs ≡ Err reason.Line
+not_header rooms s size kind.Header fs h = absurd (h refl)
+not_header rooms s size k fs h = refl
 
-not_variable : (k : Kind) → (k ≡ kind.Variable → ⊥) → is_variable k ≡ false
-not_variable kind.Header h = refl
-not_variable kind.Variable h = absurd (h refl)
-not_variable kind.Literal h = refl
-not_variable kind.And h = refl
-not_variable kind.Fork h = refl
-not_variable kind.True h = refl
-not_variable kind.False h = refl
-not_variable kind.Other h = refl
+not_variable : (rooms : Rooms) (s : Sofar) (size : ℕ) (k : Kind) (fs : List (List ℕ)) → (k ≡ kind.Variable → ⊥) → by_section rooms s size section.Variables k fs ≡ Err reason.Line
+not_variable rooms s size kind.Variable fs h = absurd (h refl)
+not_variable rooms s size k fs h = refl
 
 -- nothing was done
 pub same_stores : (s : Progress) → HasStoresOf s s
@@ -68,7 +56,7 @@ module _ (s : Progress) (l : List ℕ) where
     steps_by u r h = said_by (says_in t k l) (says l) s u r (sym says_by) h
 
     pub no_header : t ≡ section.Header → (k ≡ kind.Header → ⊥) → says l s ≡ Err reason.Line
-    no_header e h = says_by ∙ ap (λ u. says_in u k l s) e ∙ cond-false (is_header k) _ _ (not_header k h)
+    no_header e h = says_by ∙ ap (λ u. says_in u k l s) e ∙ not_header (rooms_of s) (sofar s) (length l) k (drop 1 (fields l)) h
 
     pub no_variable : t ≡ section.Variables → (k ≡ kind.Variable → ⊥) → says l s ≡ Err reason.Line
-    no_variable e h = says_by ∙ ap (λ u. says_in u k l s) e ∙ cond-false (is_variable k) _ _ (not_variable k h)
+    no_variable e h = says_by ∙ ap (λ u. says_in u k l s) e ∙ not_variable (rooms_of s) (sofar s) (length l) k (drop 1 (fields l)) h

@@ -3,12 +3,12 @@ use Rattle.std.proofs.Common.{◌≡◌, ℕ, ◌+◌, ◌<◌, ◌≤◌, true,
 use Rattle.std.specs.List.{enumerate_from}
 use Rattle.std.proofs.lemmas.List.Edits.{sets}
 use Rattle.std.proofs.lemmas.List.FromFn.{length-enumerate_from, get_or-enumerate_from}
-use Rattle.std.proofs.lemmas.List.{at_drop_more, length-append, length-drop, length-take-le, take_at, drop_at, take_more_set, drop-set-lt}
+use Rattle.std.proofs.lemmas.List.{at_drop_more, length-append, length-take-le, take_at, drop_at, take_more_set, drop-set-lt}
 use Rattle.std.proofs.lemmas.Bool.{and_parts, leb-true, cond-true, cond-false}
 use Rattle.text.specs.declared.fault.Reason.TheVariants as reason
 use Rattle.text.specs.declared.progress.Progress.{Progress}
 use Rattle.text.specs.declared.record.Node.{Node}
-use Rattle.text.specs.Format.{number_or_zero, Said, Entry, Sofar, listed, then, provided, fitting, with_node}
+use Rattle.text.specs.Format.{number_or_zero, Said, NodeEntry, Sofar, listed, then, provided, fitting, with_node}
 use Rattle.text.specs.Steps.{written_at, sofar, Taken}
 
 -- the item n of an enumeration
@@ -36,21 +36,18 @@ module _ {A : Type 0} (at : ℕ) (xs store : List A) (fits : at + length xs ≤ 
   pub drop_written : (n : ℕ) → n ≡ at + length xs → drop n (written_at at xs store) ≡ drop n store
   drop_written n e = drop_at (take at store ++ xs) (drop (at + length xs) store) n (front_length ∙ sym e) ∙ ap (λ k. drop k store) (sym e)
 
-  pub length_written : length (written_at at xs store) ≡ length store
-  length_written = length-append (take at store ++ xs) (drop (at + length xs) store) ∙ ap₂ (λ a b. a + b) front_length (length-drop (at + length xs) store) ∙ omega arith
-
 -- A node line of `size` bytes with the entry e, after the progress p.
-module _ (p : Progress) (size : ℕ) (e : Entry) (due : p.nodes < p.header.nodes) where
+module _ (p : Progress) (size : ℕ) (e : NodeEntry) (due : p.nodes < p.header.nodes) where
   measured : fitting p.header (length (take p.nodes p.node_store.now)) (length (take p.children p.child_store.now)) (length e.children) ≡ fitting p.header p.nodes p.children (length e.children)
   measured =
       let n : p.nodes ≤ length p.node_store.now = omega (arith, p.room_nodes, due) in
       let c : p.children ≤ length p.child_store.now = omega (arith, p.room_children, p.children_within) in
       ap₂ (λ i j. fitting p.header i j (length e.children)) (length-take-le p.nodes p.node_store.now n) (length-take-le p.children p.child_store.now c)
 
-  abbrev said_node : Said Entry → Said Sofar
+  abbrev said_node : Said NodeEntry → Said Sofar
   said_node said = then said (λ x. provided (fitting p.header (length (take p.nodes p.node_store.now)) (length (take p.children p.child_store.now)) (length x.children)) reason.Children (Ok (with_node (sofar p) size x)))
 
-  pub node_refused : (said : Said Entry) → said ≡ Ok e → fitting p.header p.nodes p.children (length e.children) ≡ false → said_node said ≡ Err reason.Children
+  pub node_refused : (said : Said NodeEntry) → said ≡ Ok e → fitting p.header p.nodes p.children (length e.children) ≡ false → said_node said ≡ Err reason.Children
   node_refused said is no-fit = ap said_node is ∙ cond-false _ _ _ (measured ∙ no-fit)
 
   module _ (f : fitting p.header p.nodes p.children (length e.children) ≡ true) where
@@ -64,7 +61,7 @@ module _ (p : Progress) (size : ℕ) (e : Entry) (due : p.nodes < p.header.nodes
     node_on k = record { form = e.form; first = p.children; count = k }
 
     -- q is the progress behind it, with the count k of its children
-    pub node_taken : (said : Said Entry) → said ≡ Ok e → (k : ℕ) → k ≡ length e.children → (q : Progress) → q.header ≡ p.header → q.variables ≡ p.variables
+    pub node_taken : (said : Said NodeEntry) → said ≡ Ok e → (k : ℕ) → k ≡ length e.children → (q : Progress) → q.header ≡ p.header → q.variables ≡ p.variables
         → q.nodes ≡ p.nodes + 1 → q.children ≡ p.children + k → q.line ≡ p.line + 1 → q.place ≡ p.place + (size + 1)
         → q.node_store.now ≡ set p.node_store.now p.nodes (node_on k) → q.child_store.now ≡ written_at p.children e.children p.child_store.now → Taken p q (said_node said)
     node_taken said is k ke q header variables nodes children line place node-store child-store =

@@ -2,7 +2,7 @@
 --
 -- A file is a list of lines, a line a list of fields. Each line is judged by what the lines before it said: first
 -- comes the header, then a line for each variable, then a line for each node.
-use Rattle.std.specs.Prelude.{ℕ, ◌+◌, min, Bool, true, false, cond, not, ◌&&◌, ◌||◌, List, [], ◌∷◌, ◌++◌, map, length, take, drop, replicate, is_some, Some, None, Ok, Err, Option, Result, ◌==◌, nat_le, nat_lt}
+use Rattle.std.specs.Prelude.{◌≡◌, ℕ, ◌+◌, min, Bool, true, false, cond, not, ◌&&◌, ◌||◌, List, [], ◌∷◌, ◌++◌, map, filter, length, take, drop, replicate, is_some, Some, None, Ok, Err, codes, Option, Result, ◌==◌, nat_le, nat_lt}
 use Rattle.std.proofs.Math.Nat.{min-le_right}
 use Rattle.std.specs.List.{list_any, list_all}
 use Rattle.std.specs.Option.{ok_or, option_map, unwrap_or}
@@ -41,8 +41,6 @@ then (Err r) next = Err r
 abbrev pub provided : {A : Type 0} → Bool → Reason → Said A → Said A
 provided b r said = cond b said (Err r)
 
--- The variables so far, as a list.
-
 -- the record of a name; a field that follows the rules has at most 24 bytes
 abbrev pub name_of : List ℕ → Name
 name_of f = record { bytes = take 24 (f ++ replicate 24 0); length = min (length f) 24; fits = min-le_right _ _ }
@@ -55,112 +53,92 @@ spelled n = take n.length n.bytes
 abbrev pub blank : Variable
 blank = record { role = role.Chance; name = name_of [] }
 
+-- the record of a list of variables; a file has at most 64
 abbrev pub variables_of : List Variable → Variables
 variables_of vs = record { all = take 64 (vs ++ replicate 64 blank); count = min (length vs) 64; fits = min-le_right _ _ }
 
+-- the variables as a list
 abbrev pub listed : Variables → List Variable
 listed vs = take vs.count vs.all
 
--- Fields: a line that has not as many as its kind wants is refused.
-
-abbrev pub no_field : {A : Type 0} → List (List ℕ) → Said A → Said A
-no_field [] said = said
-no_field (a ∷ fs) said = Err reason.Line
-
-abbrev pub one_field : {A : Type 0} → List (List ℕ) → (List ℕ → Said A) → Said A
-one_field [] said = Err reason.Line
-one_field (a ∷ []) said = said a
-one_field (a ∷ b ∷ fs) said = Err reason.Line
-
-abbrev pub three_fields : {A : Type 0} → List (List ℕ) → (List ℕ → List ℕ → List ℕ → Said A) → Said A
-three_fields [] said = Err reason.Line
-three_fields (a ∷ []) said = Err reason.Line
-three_fields (a ∷ b ∷ []) said = Err reason.Line
-three_fields (a ∷ b ∷ c ∷ []) said = said a b c
-three_fields (a ∷ b ∷ c ∷ d ∷ fs) said = Err reason.Line
-
--- a field's number
-abbrev pub said_number : Option ℕ → Said ℕ
-said_number o = ok_or o reason.Number
-
+-- the number that a field writes
 abbrev pub number_field : List ℕ → Said ℕ
-number_field f = said_number (number f)
+number_field f = ok_or (number f) reason.Number
 
--- The header line: the counts of variables, nodes and children.
+-- What each kind of line says, by its fields behind the letter. A line with other fields is refused.
 
 -- how many node records and child numbers the caller's stores can hold
 pub record Rooms : Type 0 where
   pub nodes : ℕ
   pub children : ℕ
 
+-- the room in these two stores
 abbrev pub rooms_for : List Node → List ℕ → Rooms
 rooms_for ns cs = record { nodes = length ns; children = length cs }
 
+-- 1 to 64 variables, 1 to 4096 nodes, at most 12288 children
 abbrev pub within_limits : ℕ → ℕ → ℕ → Bool
 within_limits v n c = nat_le 1 v && nat_le v 64 && (nat_le 1 n && nat_le n 4096) && nat_le c 12288
 
 abbrev pub header_of : ℕ → ℕ → ℕ → Header
 header_of v n c = record { variables = v; nodes = n; children = c }
 
+-- the header line: the counts of variables, nodes and children
 unfoldable pub header_says : Rooms → List (List ℕ) → Said Header
-header_says rooms fs =
-    three_fields fs (λ a b c. then (number_field a) (λ v. then (number_field b) (λ n. then (number_field c) (λ k.
+header_says rooms (a ∷ b ∷ c ∷ []) =
+    then (number_field a) (λ v. then (number_field b) (λ n. then (number_field c) (λ k.
     provided (within_limits v n k) reason.Limit
     (provided (nat_le n rooms.nodes && nat_le k rooms.children) reason.Store
-    (Ok (header_of v n k)))))))
+    (Ok (header_of v n k))))))
+header_says rooms fs = Err reason.Line
 
--- A variable line: its number, its role, its name.
-
+-- E for an option, R for a chance
 abbrev pub role_of : List ℕ → Option Role
-role_of f = cond (bytes_eq f (69 ∷ [])) (Some role.Option) (cond (bytes_eq f (82 ∷ [])) (Some role.Chance) None)
+role_of f = cond (bytes_eq f (codes "E")) (Some role.Option) (cond (bytes_eq f (codes "R")) (Some role.Chance) None)
 
+-- whether one of the variables has this name
 abbrev pub is_named : List ℕ → List Variable → Bool
 is_named f vs = list_any (λ v. bytes_eq (spelled v.name) f) vs
 
-abbrev pub one_if_option : Role → ℕ
-one_if_option role.Option = 1
-one_if_option role.Chance = 0
+abbrev pub is_option_role : Role → Bool
+is_option_role role.Option = true
+is_option_role role.Chance = false
 
 -- how many of the variables are options
-abbrev pub options : List Variable → ℕ
-options [] = 0
-options (v ∷ vs) = one_if_option v.role + options vs
+abbrev pub option_count : List Variable → ℕ
+option_count vs = length (filter (λ v. is_option_role v.role) vs)
 
 -- the rules of a variable line, after the variables before it: the number rises from 1, a name has 1 to 24 bytes
 -- and is new, at most 20 variables are options
 abbrev pub follows_rules : List Variable → ℕ → Role → List ℕ → Bool
 follows_rules before number r name =
     (number == length before + 1) && (nat_le 1 (length name) && nat_le (length name) 24)
-    && not (is_named name before) && nat_le (options before + one_if_option r) 20
+    && not (is_named name before) && nat_le (option_count before + cond (is_option_role r) 1 0) 20
 
-abbrev pub said_ruled : List Variable → ℕ → Role → List ℕ → Said Variable
-said_ruled before number r name = provided (follows_rules before number r name) reason.Variable (Ok (record { role = r; name = name_of name }))
-
-abbrev pub said_variable : List Variable → ℕ → Option Role → List ℕ → Said Variable
-said_variable before number o name = then (ok_or o reason.Variable) (λ r. said_ruled before number r name)
-
+-- a variable line, after the variables before it: its number, its role, its name
 unfoldable pub variable_says : List Variable → List (List ℕ) → Said Variable
-variable_says before fs = three_fields fs (λ a b c. then (number_field a) (λ n. said_variable before n (role_of b) c))
+variable_says before (a ∷ b ∷ c ∷ []) =
+    then (number_field a) (λ n. then (ok_or (role_of b) reason.Variable) (λ r.
+    provided (follows_rules before n r c) reason.Variable
+    (Ok (record { role = r; name = name_of c }))))
+variable_says before fs = Err reason.Line
 
--- A node line: what the node is, and its children's numbers.
-
-pub record Entry : Type 0 where
+-- what a node line says: the node's form, and its children's numbers
+pub record NodeEntry : Type 0 where
   pub form : Form
   pub children : List ℕ
 
-abbrev pub entry_of : Form → List ℕ → Entry
-entry_of f cs = record { form = f; children = cs }
+abbrev pub node_entry : Form → List ℕ → NodeEntry
+node_entry f cs = record { form = f; children = cs }
 
--- a literal: a variable's number, with a minus sign in front for off
+-- the literal of the variable with this number, if there is a number
 abbrev pub literal_of : Bool → Option ℕ → Option Form
 literal_of on o = option_map (λ v. Literal v on) o
 
+-- a literal: a variable's number, with a minus sign, 45, in front for off
 abbrev pub literal : List ℕ → Option Form
 literal [] = None
 literal (b ∷ bs) = cond (b == 45) (literal_of false (number bs)) (literal_of true (number (b ∷ bs)))
-
-abbrev pub said_literal : Option Form → Said Entry
-said_literal o = then (ok_or o reason.Number) (λ f. Ok (entry_of f []))
 
 abbrev pub is_number : List ℕ → Bool
 is_number f = is_some (number f)
@@ -172,23 +150,19 @@ number_or_zero f = unwrap_or (number f) 0
 abbrev pub numbers : List (List ℕ) → Said (List ℕ)
 numbers fs = provided (list_all is_number fs) reason.Number (Ok (map number_or_zero fs))
 
-abbrev pub and_says : List (List ℕ) → Said Entry
-and_says [] = Err reason.Line
-and_says (f ∷ fs) = then (numbers (f ∷ fs)) (λ cs. Ok (entry_of And cs))
+-- true and false have no fields
+abbrev pub leaf_says : Form → List (List ℕ) → Said NodeEntry
+leaf_says form [] = Ok (node_entry form [])
+leaf_says form fs = Err reason.Line
 
-abbrev pub fork_says : List (List ℕ) → Said Entry
-fork_says fs = three_fields fs (λ v a b. then (number_field v) (λ n. then (numbers (a ∷ b ∷ [])) (λ cs. Ok (entry_of (Fork n) cs))))
-
--- by the kind of the line
-unfoldable pub entry_says : Kind → List (List ℕ) → Said Entry
-entry_says kind.Header fs = Err reason.Line
-entry_says kind.Variable fs = Err reason.Line
-entry_says kind.Literal fs = one_field fs (λ f. said_literal (literal f))
-entry_says kind.And fs = and_says fs
-entry_says kind.Fork fs = fork_says fs
-entry_says kind.True fs = no_field fs (Ok (entry_of True []))
-entry_says kind.False fs = no_field fs (Ok (entry_of False []))
-entry_says kind.Other fs = Err reason.Line
+-- a node line: a literal, an and with its children, a fork with its variable and its two branches, true, false
+unfoldable pub node_says : Kind → List (List ℕ) → Said NodeEntry
+node_says kind.Literal (f ∷ []) = then (ok_or (literal f) reason.Number) (λ form. Ok (node_entry form []))
+node_says kind.And (f ∷ fs) = then (numbers (f ∷ fs)) (λ cs. Ok (node_entry And cs))
+node_says kind.Fork (v ∷ a ∷ b ∷ []) = then (number_field v) (λ n. then (numbers (a ∷ b ∷ [])) (λ cs. Ok (node_entry (Fork n) cs)))
+node_says kind.True fs = leaf_says True fs
+node_says kind.False fs = leaf_says False fs
+node_says k fs = Err reason.Line
 
 -- The lines together.
 
@@ -209,7 +183,7 @@ nothing_yet = record { header = header_of 0 0 0; variables = []; nodes = []; chi
 abbrev pub section_at : Header → (line variables : ℕ) → Section
 section_at h line variables = cond (line == 1) section.Header (cond (nat_lt variables h.variables) section.Variables section.Nodes)
 
--- whether every line that is due has been read
+-- whether every line that is due has been read, by the header and the number of the next line, of variables and of nodes
 abbrev pub all_read : Header → (line variables nodes : ℕ) → Bool
 all_read h line variables nodes = nat_lt 1 line && nat_le h.variables variables && nat_le h.nodes nodes
 
@@ -218,16 +192,16 @@ all_read h line variables nodes = nat_lt 1 line && nat_le h.variables variables 
 abbrev pub fitting : Header → (nodes used count : ℕ) → Bool
 fitting h nodes used count = nat_le (used + count) h.children && (nat_lt (nodes + 1) h.nodes || nat_le h.children (used + count))
 
--- what a line is by its first field, which is one letter
+-- what a line is by its letter: G, V, L, A, O, T or F
 abbrev pub by_letter : ℕ → Kind
 by_letter b =
     cond (b == 71) kind.Header (cond (b == 86) kind.Variable (cond (b == 76) kind.Literal (cond (b == 65) kind.And
     (cond (b == 79) kind.Fork (cond (b == 84) kind.True (cond (b == 70) kind.False kind.Other))))))
 
+-- what a line is by its first field, which is one letter
 abbrev pub kind_of : List ℕ → Kind
-kind_of [] = kind.Other
 kind_of (b ∷ []) = by_letter b
-kind_of (b ∷ c ∷ bs) = kind.Other
+kind_of f = kind.Other
 
 -- one line on, which has `size` bytes before its byte 10
 abbrev pub with_header : Sofar → ℕ → Header → Sofar
@@ -237,44 +211,25 @@ abbrev pub with_variable : Sofar → ℕ → Variable → Sofar
 with_variable s size v = record { header = s.header; variables = s.variables ++ v ∷ []; nodes = s.nodes; children = s.children; line = s.line + 1; place = s.place + (size + 1) }
 
 -- a node's record says where its children begin among all children
-abbrev pub node_of : Sofar → Entry → Node
+abbrev pub node_of : Sofar → NodeEntry → Node
 node_of s e = record { form = e.form; first = length s.children; count = length e.children }
 
-abbrev pub with_node : Sofar → ℕ → Entry → Sofar
+abbrev pub with_node : Sofar → ℕ → NodeEntry → Sofar
 with_node s size e = record { header = s.header; variables = s.variables; nodes = s.nodes ++ node_of s e ∷ []; children = s.children ++ e.children; line = s.line + 1; place = s.place + (size + 1) }
 
--- The section and the kind of the line together decide what is due.
-
-abbrev pub is_header : Kind → Bool
-is_header kind.Header = true
-is_header kind.Variable = false
-is_header kind.Literal = false
-is_header kind.And = false
-is_header kind.Fork = false
-is_header kind.True = false
-is_header kind.False = false
-is_header kind.Other = false
-
-abbrev pub is_variable : Kind → Bool
-is_variable kind.Header = false
-is_variable kind.Variable = true
-is_variable kind.Literal = false
-is_variable kind.And = false
-is_variable kind.Fork = false
-is_variable kind.True = false
-is_variable kind.False = false
-is_variable kind.Other = false
-
-abbrev pub by_section : Rooms → Sofar → ℕ → Section → Kind → List (List ℕ) → Said Sofar
-by_section rooms s size section.Header k fs = provided (is_header k) reason.Line (then (header_says rooms fs) (λ h. Ok (with_header s size h)))
-by_section rooms s size section.Variables k fs = provided (is_variable k) reason.Line (then (variable_says s.variables fs) (λ v. Ok (with_variable s size v)))
-by_section rooms s size section.Nodes k fs = then (entry_says k fs) (λ e. provided (fitting s.header (length s.nodes) (length s.children) (length e.children)) reason.Children (Ok (with_node s size e)))
+-- what a line of `size` bytes says, by the section that it belongs to and its kind
+abbrev pub by_section : Rooms → Sofar → (size : ℕ) → Section → Kind → List (List ℕ) → Said Sofar
+by_section rooms s size section.Header kind.Header fs = then (header_says rooms fs) (λ h. Ok (with_header s size h))
+by_section rooms s size section.Variables kind.Variable fs = then (variable_says s.variables fs) (λ v. Ok (with_variable s size v))
+by_section rooms s size section.Nodes k fs = then (node_says k fs) (λ e. provided (fitting s.header (length s.nodes) (length s.children) (length e.children)) reason.Children (Ok (with_node s size e)))
+by_section rooms s size at k fs = Err reason.Line
 
 -- the first field says what the line is
 abbrev pub by_fields : Rooms → Sofar → ℕ → List (List ℕ) → Said Sofar
 by_fields rooms s size [] = Err reason.Line
 by_fields rooms s size (f ∷ fs) = by_section rooms s size (section_at s.header s.line (length s.variables)) (kind_of f) fs
 
+-- what a line says, after the lines before it
 unfoldable pub line_says : Rooms → Sofar → List ℕ → Said Sofar
 line_says rooms s l = provided (list_all printable l) reason.Line (by_fields rooms s (length l) (fields l))
 
@@ -284,6 +239,7 @@ pub record Reading : Type 0 where
   pub children : List ℕ
   pub answer : Result Contents Fault
 
+-- a file is accepted, or refused at the line that is due
 abbrev pub accepted : Sofar → Reading
 accepted s = record {
   nodes = s.nodes;
@@ -294,21 +250,26 @@ accepted s = record {
 abbrev pub refused : Sofar → Reason → Reading
 refused s r = record { nodes = s.nodes; children = s.children; answer = Err (fault.Line r s.line) }
 
+-- the same, of what the lines so far have said
 abbrev pub is_complete : Sofar → Bool
 is_complete s = all_read s.header s.line (length s.variables) (length s.nodes)
 
--- the lines from here on
+-- what the lines from here on make of the file
 unfoldable pub read_on : Rooms → Sofar → List (List ℕ) → Reading
 read_on rooms s [] = cond (is_complete s) (accepted s) (refused s reason.Line)
 read_on rooms s (l ∷ ls) =
     cond (is_complete s) (accepted s) (elim (line_says rooms s l) [ Ok t ↦ read_on rooms t ls | Err r ↦ refused s r ])
 
--- a file of 1 to 65536 bytes
+-- what a file says, which has 1 to 65536 bytes
 unfoldable pub file_says : Rooms → List ℕ → Reading
 file_says rooms bytes =
     cond (nat_le 1 (length bytes) && nat_le (length bytes) 65536)
     (read_on rooms nothing_yet (lines bytes))
     (record { nodes = []; children = []; answer = Err fault.Length })
+
+-- as many nodes and children were read as the header says
+abbrev pub AsMany : Reading → Contents → Type 0
+AsMany told c = (length told.nodes ≡ c.nodes) × (length told.children ≡ c.children)
 
 -- whether a variable's name has only bytes that may stand in a line
 abbrev pub named_printable : Variable → Bool

@@ -4,4 +4,3 @@ pub mod Printed
 pub mod Faults
 pub mod Format
 pub mod Steps
-pub mod Shown

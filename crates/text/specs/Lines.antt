@@ -1,15 +1,10 @@
 -- A text as lines, and a line as fields. Assumes nothing.
-use Rattle.std.specs.Prelude.{◌≡◌, ℕ, suc, ◌+◌, ◌<◌, length, drop, Bool, cond, ◌&&◌, ◌||◌, List, [], ◌∷◌, ◌==◌, nat_le}
+use Rattle.std.specs.Prelude.{◌≡◌, ℕ, ◌+◌, ◌<◌, length, drop, Bool, cond, ◌&&◌, ◌||◌, List, [], ◌∷◌, ◌==◌, nat_le}
 use Rattle.std.specs.List.{slice_split}
 
 -- a byte that may stand in a line: a tab, or 32 to 126
 abbrev pub printable : ℕ → Bool
 printable b = b == 9 || (nat_le 32 b && nat_le b 126)
-
--- the place of the first byte b, or the length where there is none
-abbrev pub index_of : ℕ → List ℕ → ℕ
-index_of b [] = 0
-index_of b (x ∷ xs) = cond (x == b) 0 (suc (index_of b xs))
 
 -- puts a byte in front of the first piece, if there is one
 abbrev pub onto : ℕ → List (List ℕ) → List (List ℕ)
@@ -21,7 +16,7 @@ abbrev pub lines : List ℕ → List (List ℕ)
 lines [] = []
 lines (b ∷ bs) = cond (b == 10) ([] ∷ lines bs) (onto b (lines bs))
 
--- a text begins with a line, which a byte 10 ends
+-- the text begins with the line, which a byte 10 ends
 pub record BeginsWithLine (text line : List ℕ) : Type 0 where
   pub within : length line < length text
   pub lines_are : lines text ≡ line ∷ lines (drop (length line + 1) text)

@@ -1,13 +1,13 @@
 -- Numbers as text. Assumes nothing.
-use Rattle.std.specs.Prelude.{ℕ, ◌+◌, ◌-◌, ◌*◌, Bool, cond, not, ◌&&◌, ◌||◌, List, [], ◌∷◌, length, Some, None, Option, ◌==◌, nat_le, slice_index}
+use Rattle.std.specs.Prelude.{◌≡◌, ℕ, ◌+◌, ◌-◌, ◌*◌, ◌≤◌, Bool, cond, not, ◌&&◌, ◌||◌, List, [], ◌∷◌, length, Some, None, decimal, Option, ◌==◌, nat_le, slice_index}
 use Rattle.std.specs.Str.{all_ascii_digits}
 
--- the number that digits write, after the number n
+-- the number that digits write, behind those that write n
 abbrev pub value_on : ℕ → List ℕ → ℕ
 value_on n [] = n
 value_on n (d ∷ ds) = value_on (n * 10 + (d - 48)) ds
 
--- the same, if all are digits and it is at most `cap`
+-- that number, if all are digits and it is at most `cap`
 abbrev pub digits_upto : ℕ → ℕ → List ℕ → Option ℕ
 digits_upto cap n ds = cond (all_ascii_digits ds && nat_le (value_on n ds) cap) (Some (value_on n ds)) None
 
@@ -19,6 +19,10 @@ numeral_shaped most ds = nat_le 1 (length ds) && nat_le (length ds) most && (not
 unfoldable pub numeral : ℕ → ℕ → List ℕ → Option ℕ
 numeral most cap ds = cond (numeral_shaped most ds) (digits_upto cap 0 ds) None
 
--- a number of the table file
+-- the field is the text of n, has at most `most` digits, and n is at most `cap`
+abbrev pub IsTextOf : (most cap n : ℕ) → List ℕ → Type 0
+IsTextOf most cap n f = (f ≡ decimal n) × (length f ≤ most) × (n ≤ cap)
+
+-- a number of the table file: at most 65535
 abbrev pub number : List ℕ → Option ℕ
 number ds = numeral 5 65535 ds

@@ -7,23 +7,24 @@ use Rattle.text.specs.declared.nodes.NodeLine.{NodeLine}
 use Rattle.text.specs.declared.progress.Progress.{Progress}
 use Rattle.text.specs.declared.kind.Section.{Section}
 use Rattle.text.specs.Lines.{lines, fields}
-use Rattle.text.specs.Format.{by_section, line_says, Said, Entry, entry_of, entry_says, number_or_zero, Rooms, rooms_for, Sofar, listed}
+use Rattle.text.specs.Format.{by_section, line_says, Said, NodeEntry, node_entry, node_says, number_or_zero, Rooms, rooms_for, Sofar, listed}
 
 -- a store after numbers were written from a place on
 abbrev pub written_at : {A : Type 0} → ℕ → List A → List A → List A
 written_at at xs store = take at store ++ xs ++ drop (at + length xs) store
 
--- the entry that a node line with these fields stands for
-abbrev pub entry_at : List (List ℕ) → NodeLine → Entry
-entry_at fs n = entry_of n.form (map number_or_zero (drop n.from fs))
+-- what a node line with these fields says, by what was read of it
+abbrev pub line_entry : List (List ℕ) → NodeLine → NodeEntry
+line_entry fs n = node_entry n.form (map number_or_zero (drop n.from fs))
 
--- what is read of a node line is what the line says
-abbrev pub Answers : Said Entry → List (List ℕ) → Result NodeLine Reason → Type 0
-Answers said fs (Ok n) = (said ≡ Ok (entry_at fs n)) × (n.from ≤ length fs)
-Answers said fs (Err r) = said ≡ Err r
+-- what was read of a node line is what is said
+abbrev pub ReadsAs : Said NodeEntry → List (List ℕ) → Result NodeLine Reason → Type 0
+ReadsAs said fs (Ok n) = (said ≡ Ok (line_entry fs n)) × (n.from ≤ length fs)
+ReadsAs said fs (Err r) = said ≡ Err r
 
-abbrev pub Heard : Kind → List (List ℕ) → Result NodeLine Reason → Type 0
-Heard k fs r = Answers (entry_says k (drop 1 fs)) fs r
+-- it is what a line of this kind with these fields says
+abbrev pub ReadsNode : Kind → List (List ℕ) → Result NodeLine Reason → Type 0
+ReadsNode k fs r = ReadsAs (node_says k (drop 1 fs)) fs r
 
 -- what has been said so far, as the reader holds it
 abbrev pub sofar : Progress → Sofar
@@ -36,6 +37,7 @@ sofar s = record {
   place = s.place;
 }
 
+-- the room in the reader's two stores
 abbrev pub rooms_of : Progress → Rooms
 rooms_of s = rooms_for s.node_store.now s.child_store.now
 
@@ -58,6 +60,7 @@ abbrev pub Moves : (Progress → Said Sofar) → Progress → Progress → {U : 
 Moves said before after (Ok u) = Taken before after (said before)
 Moves said before after (Err r) = (said before ≡ Err r) × (after.node_store.now ≡ before.node_store.now) × (after.child_store.now ≡ before.child_store.now)
 
+-- one step of the reader: it moves by what is said, and has its stores as before
 pub record Steps (said : Progress → Said Sofar) (before after : Progress) {U : Type 0} (r : Result U Reason) : Type 0 where
   pub moves : Moves said before after r
   pub stores : HasStoresOf before after
@@ -75,5 +78,6 @@ abbrev pub first_says : Rooms → Sofar → List (List ℕ) → Said Sofar
 first_says rooms s [] = Err reason.Line
 first_says rooms s (l ∷ ls) = line_says rooms s l
 
+-- what the line that is due in a file says
 abbrev pub next_says : List ℕ → Progress → Said Sofar
 next_says file s = first_says (rooms_of s) (sofar s) (lines (drop s.place file))

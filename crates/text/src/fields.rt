@@ -1,22 +1,13 @@
 //! The bytes and the fields of a line.
-ghost use Rattle.std.specs.Prelude.{◌≡◌, ◌≤◌, [], length, slice_index_or, MatchOption};
+ghost use Rattle.std.specs.Prelude.{◌≡◌, [], length, slice_index_or, MatchOption};
 ghost use Rattle.std.specs.List.{list_all};
-ghost use Rattle.text.specs.Lines.{printable, index_of, lines, fields, BeginsWithLine};
+ghost use Rattle.text.specs.Lines.{printable, lines, fields, BeginsWithLine};
 
 /// The byte between two fields.
 pub const TAB: u8 = 9;
 
 /// The byte that ends a line.
 pub const NEWLINE: u8 = 10;
-
-/// The place of the first `byte`, or the length of the text where it has none.
-// Not an Option: what stands before the byte is `text[..place]` either way.
-pub fn find(text: &[u8], byte: u8) -> usize
-    ensures value { result ≡ index_of byte text.now }
-    ensures within { result ≤ length text.now }
-{
-    text.iter().position(|b| *b == byte).unwrap_or(text.len())
-}
 
 /// The first line of a text, without the byte that ends it, if the text has one.
 pub fn first_line(text: &[u8]) -> Option<&[u8]>

@@ -11,5 +11,4 @@ pub mod progress;
 pub mod reader;
 pub mod record;
 pub mod refusal;
-pub mod shown;
 pub mod variables;

@@ -55,7 +55,7 @@ pub(crate) fn role(letter: &[u8]) -> Option<Role>
 }
 
 /// Whether a variable follows the rules, after the variables before it.
-#[tactic(auto, using(crate::proofs::Says::options_within, crate::proofs::Says::one_within))]
+#[tactic(auto, using(crate::proofs::Says::options_within))]
 fn follows_rules(before: &Variables, number: u16, role: Role, name: &[u8]) -> bool
     ensures { result ≡ follows_rules (listed before.now) number role name.now }
 {

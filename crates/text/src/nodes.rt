@@ -3,8 +3,8 @@ ghost use Rattle.std.specs.Prelude.{◌≡◌, ◌+◌, ◌≤◌, [], map, leng
 ghost use Rattle.std.specs.List.{list_all};
 ghost use Rattle.text.specs.Lines.{fields};
 ghost use Rattle.text.specs.Numerals.{number};
-ghost use Rattle.text.specs.Format.{is_number, number_or_zero, literal_of, literal, no_field, entry_of};
-ghost use Rattle.text.specs.Steps.{Answers, Heard, written_at};
+ghost use Rattle.text.specs.Format.{is_number, number_or_zero, literal_of, literal, leaf_says};
+ghost use Rattle.text.specs.Steps.{ReadsAs, ReadsNode, written_at};
 ghost use Rattle.text.specs.declared.kind.Kind.TheVariants as kind;
 
 use crate::fault::Reason;
@@ -60,9 +60,9 @@ pub(crate) fn read_literal(field: &[u8]) -> Option<Form>
     }
 }
 
-#[tactic(auto, using(crate::proofs::Cuts::some_field), unfolding(crate::specs::Format::entry_says))]
+#[tactic(auto, using(crate::proofs::Cuts::some_field), unfolding(crate::specs::Format::node_says))]
 fn literal_line(line: &[u8]) -> Result<NodeLine, Reason>
-    ensures { Heard kind.Literal (fields line.now) result }
+    ensures { ReadsNode kind.Literal (fields line.now) result }
 {
     if field_count(line) != 2 {
         return Err(Reason::Line);
@@ -71,9 +71,9 @@ fn literal_line(line: &[u8]) -> Result<NodeLine, Reason>
     Ok(NodeLine { form, from: 2 })
 }
 
-#[tactic(auto, using(crate::proofs::Cuts::some_field), unfolding(crate::specs::Format::entry_says))]
+#[tactic(auto, using(crate::proofs::Cuts::some_field), unfolding(crate::specs::Format::node_says))]
 fn and_line(line: &[u8]) -> Result<NodeLine, Reason>
-    ensures { Heard kind.And (fields line.now) result }
+    ensures { ReadsNode kind.And (fields line.now) result }
 {
     if field_count(line) < 2 {
         return Err(Reason::Line);
@@ -87,9 +87,9 @@ fn and_line(line: &[u8]) -> Result<NodeLine, Reason>
     })
 }
 
-#[tactic(auto, using(crate::proofs::Cuts::some_field), unfolding(crate::specs::Format::entry_says))]
+#[tactic(auto, using(crate::proofs::Cuts::some_field), unfolding(crate::specs::Format::node_says))]
 fn fork_line(line: &[u8]) -> Result<NodeLine, Reason>
-    ensures { Heard kind.Fork (fields line.now) result }
+    ensures { ReadsNode kind.Fork (fields line.now) result }
 {
     if field_count(line) != 4 {
         return Err(Reason::Line);
@@ -106,7 +106,7 @@ fn fork_line(line: &[u8]) -> Result<NodeLine, Reason>
 
 #[tactic(auto, using(crate::proofs::Cuts::some_field))]
 fn leaf_line(line: &[u8], form: Form) -> Result<NodeLine, Reason>
-    ensures { Answers (no_field (drop 1 (fields line.now)) (Ok (entry_of form []))) (fields line.now) result }
+    ensures { ReadsAs (leaf_says form (drop 1 (fields line.now))) (fields line.now) result }
 {
     if field_count(line) != 1 {
         return Err(Reason::Line);
@@ -115,9 +115,9 @@ fn leaf_line(line: &[u8], form: Form) -> Result<NodeLine, Reason>
 }
 
 /// A node line of a kind.
-#[tactic(auto, unfolding(crate::specs::Format::entry_says))]
+#[tactic(auto, unfolding(crate::specs::Format::node_says))]
 pub(crate) fn node_line(line_kind: Kind, line: &[u8]) -> Result<NodeLine, Reason>
-    ensures { Heard line_kind (fields line.now) result }
+    ensures { ReadsNode line_kind (fields line.now) result }
 {
     match line_kind {
         Kind::Literal => literal_line(line),

@@ -1,12 +1,13 @@
 //! Numbers as text: digits with no leading zero.
-ghost use Rattle.std.specs.Prelude.{◌≡◌, [], ◌∷◌};
-ghost use Rattle.text.specs.Numerals.{digits_upto, numeral, number};
+ghost use Rattle.std.specs.Prelude.{◌≡◌, ◌↔◌, ℕ, [], ◌∷◌, Some};
+ghost use Rattle.text.specs.Numerals.{digits_upto, numeral, number, IsTextOf};
 
 /// The number that `field` writes in at most `most` digits, if it has the form and is at most
 /// `cap`. The form is that of a plain number: no sign, and no leading zero but in `0` itself.
 #[tactic(auto, unfolding(crate::specs::Numerals::numeral))]
 pub fn read_numeral(field: &[u8], most: usize, cap: u64) -> Option<u64>
-    ensures { result ≡ numeral most cap field.now }
+    ensures value { result ≡ numeral most cap field.now }
+    ensures exact { (n : ℕ) → (result ≡ Some n) ↔ IsTextOf most cap n field.now }
 {
     match field {
         [] | [b'0', _, ..] => None,

@@ -1,7 +1,7 @@
 //! The reader of a table file.
 ghost use Rattle.std.specs.Prelude.{◌≡◌, ◌+◌, ◌^◌, ◌<◌, ◌≤◌, true, false, length, IfOk};
 ghost use Rattle.std.specs.List.{list_all};
-ghost use Rattle.text.specs.Format.{section_at, all_read, fitting, listed, nothing_yet, file_says, overwritten, rooms_for, named_printable};
+ghost use Rattle.text.specs.Format.{section_at, all_read, fitting, listed, nothing_yet, file_says, overwritten, rooms_for, AsMany, named_printable};
 ghost use Rattle.text.specs.Steps.{sofar, says_in, says, next_says, Steps};
 ghost use Rattle.text.specs.declared.kind.Kind.TheVariants as kind;
 ghost use Rattle.text.specs.declared.kind.Section.TheVariants as section;
@@ -154,6 +154,7 @@ pub fn read_table(file: &[u8], nodes: &mut [Node], children: &mut [u16]) -> Resu
     ensures answer { result ≡ (file_says (rooms_for nodes.old children.old) file.now).answer }
     ensures nodes { nodes.new ≡ overwritten (file_says (rooms_for nodes.old children.old) file.now).nodes nodes.old }
     ensures children { children.new ≡ overwritten (file_says (rooms_for nodes.old children.old) file.now).children children.old }
+    ensures counts { IfOk result (λ c. AsMany (file_says (rooms_for nodes.old children.old) file.now) c) }
     ensures names { IfOk result (λ c. list_all named_printable (listed c.variables) ≡ true) }
 {
     if file.len() < 1 || file.len() > 65536 {

@@ -1,6 +1,6 @@
 //! Names, and the variables read so far.
-ghost use Rattle.std.specs.Prelude.{◌≡◌, ◌<◌, List, [], ◌∷◌, ◌++◌};
-ghost use Rattle.text.specs.Format.{name_of, spelled, listed, is_named, options, blank, variables_of};
+ghost use Rattle.std.specs.Prelude.{◌≡◌, ◌<◌, List, [], ◌∷◌, ◌++◌, IsAscii, IsUtf8};
+ghost use Rattle.text.specs.Format.{name_of, spelled, listed, is_named, option_count, blank, variables_of};
 
 use crate::record::{Name, Role, Variable, Variables};
 
@@ -23,6 +23,16 @@ impl Name {
         ensures { result.now ≡ spelled self.now }
     {
         &self.bytes[0..self.length as usize]
+    }
+
+    /// The name as text: nothing where its bytes are none. The reader accepts only names of printable
+    /// ASCII.
+    pub fn as_str(&self) -> &str
+        ensures ascii { IsAscii (spelled self.now) → result.now ≡ spelled self.now }
+        ensures text { IsUtf8 (spelled self.now) → result.now ≡ spelled self.now }
+        ensures other { ¬ (IsUtf8 (spelled self.now)) → result.now ≡ [] }
+    {
+        std::str::from_utf8(self.as_bytes()).unwrap_or("")
     }
 }
 
@@ -57,7 +67,7 @@ impl Variables {
 
     /// How many of the variables are options.
     pub fn options(&self) -> usize
-        ensures { result ≡ options (listed self.now) }
+        ensures { result ≡ option_count (listed self.now) }
     {
         self.as_slice()
             .iter()

@@ -1,6 +1,6 @@
 -- What the program prints for a refused file, as bytes. Assumes nothing.
 use Rattle.std.specs.Prelude.{◌≡◌, ℕ, List, ◌++◌, Some, None, Ok, Err, codes, Option, Result}
-use Rattle.parts.specs.Parts.{largest, reading, nodes_of, children_of}
+use Rattle.parts.specs.Parts.{largest, read_from}
 use Rattle.text.specs.declared.fault.Fault as text
 use Rattle.text.specs.declared.record.Node.{Node}
 use Rattle.text.specs.declared.record.Contents.{Contents}
@@ -21,14 +21,14 @@ abbrev pub check_refusal : Result Mentions table.Fault → Option table.Fault
 check_refusal (Ok m) = None
 check_refusal (Err f) = Some f
 
--- the refusal in an answer of the reader, with the parts that the stores give, or of the check behind it
-abbrev pub read_refusal : Result Contents text.Fault → (Contents → List Node) → (Contents → List ℕ) → Option table.Fault
-read_refusal (Ok c) ns cs = check_refusal (check_says c.variables (ns c) (cs c))
+-- the refusal in an answer of the reader, or of the check of the nodes and children read
+abbrev pub read_refusal : Result Contents text.Fault → List Node → List ℕ → Option table.Fault
+read_refusal (Ok c) ns cs = check_refusal (check_says c.variables ns cs)
 read_refusal (Err f) ns cs = Some (Text f)
 
 -- the refusal of a file by the reader or the check, if there is one
 abbrev pub refusal_of : List ℕ → Option table.Fault
-refusal_of file = read_refusal (reading largest file).answer (nodes_of largest file) (children_of largest file)
+refusal_of file = read_refusal (read_from largest file).answer (read_from largest file).nodes (read_from largest file).children
 
 -- the text says this refusal and nothing else, if there is one
 abbrev pub told : Option table.Fault → List ℕ → Type 0

@@ -11,7 +11,7 @@ use std::process::ExitCode;
 use crate::measure::{engine_lines, reference_lines, Line, Task};
 
 /// How often each task is timed on each side. The least time counts.
-const ROUNDS: usize = 2;
+const ROUNDS: usize = 5;
 
 /// A plant, and what is timed on it.
 struct Measured {

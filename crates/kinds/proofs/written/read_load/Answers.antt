@@ -10,7 +10,7 @@ read_as : (s : List ℕ) (cap n : ℕ) (r : Option ℕ) → cap ≡ 4294967295 �
 read_as s cap n r e read was = ap (λ k. numeral 10 k s) (sym e) ∙ sym read ∙ was
 
 low : (c : goal.In_ok-watts) → c.in_ok-watts.watts ≤ 4294967295
-low c = numeral_le _ _ _ _ (read_as c.args.field.now _ _ _ c.from.ensures c.read_numeral.ensures c.in_ok-watts.was)
+low c = numeral_le _ _ _ _ (read_as c.args.field.now _ _ _ c.from.ensures c.read_numeral.ensures.value c.in_ok-watts.was)
 
 pub overflow_cast-result : goal.overflow_cast-result
 overflow_cast-result c = omega (arith, low c)
@@ -21,4 +21,4 @@ invariant_of-result c = record { fits = low c }
 pub returns : goal.returns
 returns c =
     ap Some (same_watts _ _ (omega arith))
-    ∙ ap (option_map load) (sym (read_as c.args.field.now _ _ _ c.from.ensures c.read_numeral.ensures c.in_ok-watts.was))
+    ∙ ap (option_map load) (sym (read_as c.args.field.now _ _ _ c.from.ensures c.read_numeral.ensures.value c.in_ok-watts.was))

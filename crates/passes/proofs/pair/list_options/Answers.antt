@@ -5,8 +5,7 @@ use Rattle.text.specs.contracts.record.Role.{the_type}
 use Rattle.text.specs.declared.record.Role.{Role}
 use Rattle.text.specs.declared.record.Role.TheVariants.{Option, Chance}
 use Rattle.text.specs.declared.record.Variable.{Variable}
-use Rattle.text.specs.Format.{listed}
-use Rattle.table.specs.Nodes.{is_option_role}
+use Rattle.text.specs.Format.{is_option_role, listed}
 use Rattle.table.specs.Whole.{roles}
 use Rattle.table.proofs.Asked.{variables_long}
 use Rattle.passes.proofs.Options.{rest_from, list_option, list_chance}

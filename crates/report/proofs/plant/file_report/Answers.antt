@@ -1,6 +1,6 @@
 use Rattle.std.proofs.Common.{sym, subst}
 use Rattle.text.specs.Format.{listed}
-use Rattle.text.specs.Shown.{PlainNames}
+use Rattle.text.specs.Printed.{PlainNames}
 use Rattle.text.specs.declared.record.Variables.{Variables}
 use Rattle.text.proofs.Filled.{plain_names}
 use Rattle.parts.proofs.Filling.{parts_of}

@@ -8,10 +8,10 @@ use Rattle.text.specs.declared.fault.Fault.{Fault}
 use Rattle.text.specs.declared.fault.Fault.TheVariants as text_fault
 use Rattle.text.specs.declared.fault.Reason.TheVariants as reason
 use Rattle.text.specs.declared.record.Variables.{Variables}
-use Rattle.text.specs.Format.{listed}
+use Rattle.text.specs.Format.{is_option_role, listed}
 use Rattle.text.specs.Lines.{lines, BeginsWithLine}
 use Rattle.table.specs.declared.fault.Fault.TheVariants as table_fault
-use Rattle.table.specs.Nodes.{is_option_role, roles_of}
+use Rattle.table.specs.Nodes.{roles_of}
 use Rattle.table.specs.Whole.{roles}
 use Rattle.search.specs.declared.fault.Fault.TheVariants.{Table}
 use Rattle.search.specs.Study.{short_sheet}

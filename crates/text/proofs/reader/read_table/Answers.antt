@@ -8,6 +8,7 @@ use Rattle.text.specs.Steps.{sofar, first_says, Taken}
 use Rattle.text.proofs.Limits.{before_ok, before_err}
 use Rattle.text.proofs.Runs.{Going, begins, completeness, ends_accepted, ends_line, ends_inside, ends_outside, goes_on, rooms_same, next_place}
 use Rattle.text.proofs.Printable.{file_printable}
+use Rattle.text.proofs.Counts.{file_counted}
 use Rattle.text.proofs.reader.read_table.Goals as goal
 use Rattle.text.proofs.reader.read_table.Goals.{In_ok-map_err}
 
@@ -17,7 +18,7 @@ returns-then-file-lt1 c =
     let outside : (leb 1 (length file) && leb (length file) 65536) ≡ false =
     ⊎_elim (λ h. and_left (leb 1 (length file)) (leb (length file) 65536) (lt-leb 1 (length file) h)) (λ h. and_right (leb 1 (length file)) (leb (length file) 65536) (lt-leb (length file) 65536 h.1)) c.then-file-lt1.either in
     let e = ends_outside file c.args.nodes.now c.args.children.now outside in
-    record { answer = e.answer_is; nodes = e.nodes_are; children = e.children_are; names = tt }
+    record { answer = e.answer_is; nodes = e.nodes_are; children = e.children_are; counts = tt; names = tt }
 
 pub loop-line-init : goal.loop-line-init
 loop-line-init c = record { going = begins c.args.file.now c.args.nodes.now c.args.children.now c.new-progress.result c.new-progress.ensures.begins c.new-progress.ensures.nodes.1 c.new-progress.ensures.children.1; nodes = refl; children = refl }
@@ -68,6 +69,7 @@ returns-in_err-map_err c =
       answer = p.1 ∙ ap Err (p.2 ∙ why) ∙ e.answer_is;
       nodes = search rules;
       children = search rules;
+      counts = IfOk-from_err _ _ c.from_residual.ensures.0;
       names = IfOk-from_err _ _ c.from_residual.ensures.0;
     }
 
@@ -87,5 +89,6 @@ returns c =
       answer = answer;
       nodes = search rules;
       children = search rules;
+      counts = file_counted _ (rooms_for ns cs) file (sym answer);
       names = file_printable (rooms_for ns cs) file _ (sym answer);
     }

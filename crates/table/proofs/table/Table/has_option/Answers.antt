@@ -1,6 +1,6 @@
 use Rattle.std.proofs.Common.{sym, ap, ◌∙◌}
 use Rattle.table.proofs.Asked.{unknown_option, option_says}
-use Rattle.table.specs.Nodes.{is_option_role}
+use Rattle.text.specs.Format.{is_option_role}
 use Rattle.table.proofs.table.Table.has_option.Goals as goal
 
 pub returns-in-Option : goal.returns-in-Option

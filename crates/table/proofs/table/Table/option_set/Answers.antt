@@ -3,7 +3,7 @@ use Rattle.std.specs.List.{fold}
 use Rattle.std.proofs.iter.runs.Made.{chains}
 use Rattle.text.specs.Format.{listed}
 use Rattle.table.specs.Masks.{has_bit}
-use Rattle.table.specs.Nodes.{is_option_role}
+use Rattle.text.specs.Format.{is_option_role}
 use Rattle.table.specs.Sound.{is_option}
 use Rattle.table.specs.Whole.{roles}
 use Rattle.table.proofs.Asked.{variables_long, variables_few}

@@ -3,7 +3,7 @@ use Rattle.std.proofs.lemmas.List.{length-map, length-drop, length-set}
 use Rattle.text.specs.declared.kind.Section.TheVariants as section
 use Rattle.text.specs.Lines.{fields}
 use Rattle.text.specs.Format.{number_or_zero, fitting}
-use Rattle.text.specs.Steps.{entry_at, says_in}
+use Rattle.text.specs.Steps.{line_entry, says_in}
 use Rattle.text.proofs.Cuts.{few_fields}
 use Rattle.text.proofs.Sections.{refused_by}
 use Rattle.text.proofs.Stores.{node_refused, node_room, node_taken, stays_within}
@@ -11,7 +11,7 @@ use Rattle.text.proofs.progress.Progress.take_node.Goals as goal
 use Rattle.text.proofs.progress.Progress.take_node.Goals.{After-field_count}
 
 -- how many children the line has
-counted : (c : After-field_count) → c.field_count.result - c.in_ok-said.said.from ≡ length (entry_at (fields c.args.line.now) c.in_ok-said.said).children
+counted : (c : After-field_count) → c.field_count.result - c.in_ok-said.said.from ≡ length (line_entry (fields c.args.line.now) c.in_ok-said.said).children
 counted c =
     let fs = fields c.args.line.now in
     let from = c.in_ok-said.said.from in
@@ -25,7 +25,7 @@ children_fit-requires c =
 pub returns-then-not-children_fit : goal.returns-then-not-children_fit
 returns-then-not-children_fit c =
     let s = c.args.self.now in
-    let e = entry_at (fields c.args.line.now) c.in_ok-said.said in
+    let e = line_entry (fields c.args.line.now) c.in_ok-said.said in
     let fits = c.if-not-children_fit.ensures ∙ ap (fitting s.header s.nodes s.children) (counted (goal.at.returns-then-not-children_fit c).After-field_count) in
     refused_by (says_in section.Nodes c.args.line_kind c.args.line.now) s _ (node_refused s (length c.args.line.now) e c.requires.due _ c.in_ok-said.ensures.0 (sym fits))
 
@@ -35,7 +35,7 @@ write_numbers-requires c =
     let fs = fields c.args.line.now in
     let said = c.in_ok-said.said in
     let fits = c.if-not-children_fit.ensures ∙ ap (fitting s.header s.nodes s.children) (counted (goal.at.write_numbers-requires c).After-field_count) in
-    omega (arith, node_room s (length c.args.line.now) (entry_at fs said) c.requires.due (sym fits), length-map (drop said.from fs) number_or_zero)
+    omega (arith, node_room s (length c.args.line.now) (line_entry fs said) c.requires.due (sym fits), length-map (drop said.from fs) number_or_zero)
 
 pub invariant_of-self : goal.invariant_of-self
 invariant_of-self c =
@@ -57,7 +57,7 @@ invariant_of-self c =
 pub invariant_of-self-2 : goal.invariant_of-self-2
 invariant_of-self-2 c =
     let s = c.args.self.now in
-    let e = entry_at (fields c.args.line.now) c.in_ok-said.said in
+    let e = line_entry (fields c.args.line.now) c.in_ok-said.said in
     let count = counted (goal.at.invariant_of-self-2 c).After-field_count in
     let fits = c.if-not-children_fit.ensures ∙ ap (fitting s.header s.nodes s.children) count in
     record {
@@ -77,7 +77,7 @@ invariant_of-self-2 c =
 pub returns : goal.returns
 returns c =
     let s = c.args.self.now in
-    let e = entry_at (fields c.args.line.now) c.in_ok-said.said in
+    let e = line_entry (fields c.args.line.now) c.in_ok-said.said in
     let count = counted (goal.at.returns c).After-field_count in
     let fits = c.if-not-children_fit.ensures ∙ ap (fitting s.header s.nodes s.children) count in
     record {
