@@ -41,10 +41,9 @@ impl Table<'_> {
     pub fn option_set(&self) -> u64
         ensures { OptionSet (roles self.now) result }
     {
-        self.variables
-            .as_slice()
-            .iter()
-            .rev()
-            .fold(0, |set, variable| set << 1 | u64::from(variable.role == Role::Option))
+        self.variables.as_slice().iter().rev().fold(
+            0,
+            |set, variable| set << 1 | u64::from(variable.role == Role::Option),
+        )
     }
 }

@@ -10,3 +10,4 @@ pub mod Printable
 pub mod Counts
 pub mod Filled
 pub mod Printed
+pub mod Clean

@@ -9,9 +9,9 @@ use Rattle.text.specs.declared.kind.Kind.TheVariants as kind
 use Rattle.text.specs.declared.kind.Section.{Section}
 use Rattle.text.specs.declared.kind.Section.TheVariants as section
 use Rattle.text.specs.declared.progress.Progress.{Progress}
-use Rattle.text.specs.Lines.{printable, fields}
+use Rattle.text.specs.Lines.{printable, first_printable, fields}
 use Rattle.text.specs.Format.{Said, Rooms, Sofar, listed, section_at, kind_of, by_section, by_fields, line_says}
-use Rattle.text.specs.Steps.{sofar, rooms_of, says_in, says, Steps, Taken, HasStoresOf}
+use Rattle.text.specs.Steps.{sofar, rooms_of, says_in, says, first_says, Steps, Taken, HasStoresOf}
 use Rattle.text.proofs.Cuts.{some_field}
 
 by_first : (rooms : Rooms) (s : Sofar) (size : ℕ) (fs : List (List ℕ)) → 1 ≤ length fs → by_fields rooms s size fs ≡ by_section rooms s size (section_at s.header s.line (length s.variables)) (kind_of (get_or fs 0 [])) (drop 1 fs)
@@ -60,3 +60,8 @@ module _ (s : Progress) (l : List ℕ) where
 
     pub no_variable : t ≡ section.Variables → (k ≡ kind.Variable → ⊥) → says l s ≡ Err reason.Line
     no_variable e h = says_by ∙ ap (λ u. says_in u k l s) e ∙ not_variable (rooms_of s) (sofar s) (length l) k (drop 1 (fields l)) h
+
+-- a line is asked for, and there is none, or one with a byte that may not stand in it
+pub unprintable_first : (s : Progress) (ls : List (List ℕ)) → first_printable ls ≡ false → first_says (rooms_of s) (sofar s) ls ≡ Err reason.Line
+unprintable_first s [] h = refl
+unprintable_first s (l ∷ ls) h = unprintable s l h

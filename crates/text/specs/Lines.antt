@@ -1,6 +1,6 @@
 -- A text as lines, and a line as fields. Assumes nothing.
-use Rattle.std.specs.Prelude.{◌≡◌, ℕ, ◌+◌, ◌<◌, length, drop, Bool, cond, ◌&&◌, ◌||◌, List, [], ◌∷◌, ◌==◌, nat_le}
-use Rattle.std.specs.List.{slice_split}
+use Rattle.std.specs.Prelude.{◌≡◌, ℕ, ◌+◌, ◌<◌, length, drop, Bool, false, cond, ◌&&◌, ◌||◌, List, [], ◌∷◌, ◌==◌, nat_le}
+use Rattle.std.specs.List.{list_all, slice_split}
 
 -- a byte that may stand in a line: a tab, or 32 to 126
 abbrev pub printable : ℕ → Bool
@@ -15,6 +15,11 @@ onto b (p ∷ ps) = (b ∷ p) ∷ ps
 abbrev pub lines : List ℕ → List (List ℕ)
 lines [] = []
 lines (b ∷ bs) = cond (b == 10) ([] ∷ lines bs) (onto b (lines bs))
+
+-- whether there is a first line, and each of its bytes may stand in a line
+abbrev pub first_printable : List (List ℕ) → Bool
+first_printable [] = false
+first_printable (l ∷ ls) = list_all printable l
 
 -- the text begins with the line, which a byte 10 ends
 pub record BeginsWithLine (text line : List ℕ) : Type 0 where

@@ -1,7 +1,7 @@
 //! The bytes and the fields of a line.
-ghost use Rattle.std.specs.Prelude.{◌≡◌, [], length, slice_index_or, MatchOption};
+ghost use Rattle.std.specs.Prelude.{◌≡◌, true, false, [], length, slice_index_or, MatchOption};
 ghost use Rattle.std.specs.List.{list_all};
-ghost use Rattle.text.specs.Lines.{printable, lines, fields, BeginsWithLine};
+ghost use Rattle.text.specs.Lines.{printable, first_printable, lines, fields, BeginsWithLine};
 
 /// The byte between two fields.
 pub const TAB: u8 = 9;
@@ -24,6 +24,20 @@ pub(crate) fn is_printable(byte: u8) -> bool
     matches!(byte, TAB | 32..=126)
 }
 
+/// The first line of a text, without the byte that ends it, if the text has one and each byte of it
+/// may stand in a line.
+pub(crate) fn printable_line(text: &[u8]) -> Option<&[u8]>
+    ensures { MatchOption result (first_printable (lines text.now) ≡ false) (λ l. BeginsWithLine text.now l.now × (list_all printable l.now ≡ true)) }
+{
+    // One search for both: the byte that ends a line may not stand in one.
+    let end = text.iter().position(|b| !is_printable(*b))?;
+    if text[end] == NEWLINE {
+        Some(&text[..end])
+    } else {
+        None
+    }
+}
+
 /// Whether each byte of a line may stand there.
 pub fn all_printable(line: &[u8]) -> bool
     ensures { result ≡ list_all printable line.now }
@@ -35,7 +49,7 @@ pub fn all_printable(line: &[u8]) -> bool
 pub fn field_count(line: &[u8]) -> usize
     ensures { result ≡ length (fields line.now) }
 {
-    line.split(|b| *b == TAB).count()
+    line.iter().filter(|b| **b == TAB).count() + 1
 }
 
 /// The field `k` of a line, counted from 0, or nothing where the line has no such field.

@@ -2,12 +2,13 @@
 ghost use Rattle.std.specs.Prelude.{◌≡◌, ◌+◌, ◌^◌, ◌<◌, ◌≤◌, true, false, length, IfOk};
 ghost use Rattle.std.specs.List.{list_all};
 ghost use Rattle.text.specs.Format.{section_at, all_read, fitting, listed, nothing_yet, file_says, overwritten, rooms_for, AsMany, named_printable};
+ghost use Rattle.text.specs.Lines.{printable};
 ghost use Rattle.text.specs.Steps.{sofar, says_in, says, next_says, Steps};
 ghost use Rattle.text.specs.declared.kind.Kind.TheVariants as kind;
 ghost use Rattle.text.specs.declared.kind.Section.TheVariants as section;
 
 use crate::fault::{Fault, Reason};
-use crate::fields::{all_printable, field_count, first_line};
+use crate::fields::{field_count, printable_line};
 use crate::kind::{Kind, Section, line_kind};
 use crate::lines::{header_line, variable_line};
 use crate::nodes::{node_line, write_numbers};
@@ -123,11 +124,9 @@ impl<'n, 'c> Progress<'n, 'c> {
     fn take_line(&mut self, line: &[u8]) -> Result<(), Reason>
         requires due { all_read self.old.header self.old.line (length (listed self.old.variables)) self.old.nodes ≡ false }
         requires room { self.old.place + (length line.now + 1) ≤ 65536 }
+        requires printable { list_all printable line.now ≡ true }
         ensures { Steps (says line.now) self.old self.new result }
     {
-        if !all_printable(line) {
-            return Err(Reason::Line);
-        }
         match (self.section(), line_kind(line)) {
             (Section::Header, Kind::Header) => self.take_header(line),
             (Section::Variables, Kind::Variable) => self.take_variable(line),
@@ -143,7 +142,7 @@ impl<'n, 'c> Progress<'n, 'c> {
         requires short { length file.now ≤ 65536 }
         ensures { Steps (next_says file.now) self.old self.new result }
     {
-        let line = first_line(&file[self.place..]).ok_or(Reason::Line)?;
+        let line = printable_line(&file[self.place..]).ok_or(Reason::Line)?;
         self.take_line(line)
     }
 }
