@@ -121,20 +121,27 @@ pub fn largest() -> Vec<u8> {
     circuit.file(20, &[(1, 2); 44])
 }
 
-/// Each of 20 options serves the hall in one state of a chance of its own: the bound is exact.
+/// Each of 20 options has two chances of its own, and serves the hall if they agree or if they do
+/// not: the bound is exact.
 pub fn exact_bound() -> Vec<u8> {
     const OPTIONS: usize = 20;
-    let mut circuit = Circuit::with_literals(2 * OPTIONS);
+    let mut circuit = Circuit::with_literals(3 * OPTIONS);
     let parts: Vec<usize> = (1..=OPTIONS)
         .map(|option| {
-            let chance = OPTIONS + option;
-            let [on, off] = [true, false]
-                .map(|on| circuit.and(&[literal_at(chance, on), literal_at(option, on)]));
-            circuit.fork(chance, on, off)
+            let (first, second) = (OPTIONS + 2 * option - 1, OPTIONS + 2 * option);
+            let [on, off] = [true, false].map(|first_on| {
+                let [on, off] = [true, false].map(|second_on| {
+                    let served = literal_at(option, first_on == second_on);
+                    circuit.and(&[literal_at(second, second_on), served])
+                });
+                let rest = circuit.fork(second, on, off);
+                circuit.and(&[literal_at(first, first_on), rest])
+            });
+            circuit.fork(first, on, off)
         })
         .collect();
     circuit.and(&parts);
-    let weights: Vec<(usize, usize)> = (0..OPTIONS).map(|i| (2 + i % 3, 3 - i % 2)).collect();
+    let weights: Vec<(usize, usize)> = (0..2 * OPTIONS).map(|i| (1 + i % 3, 2 - i % 2)).collect();
     circuit.file(OPTIONS, &weights)
 }
 
