@@ -1,9 +1,8 @@
 -- Select: the best selection by branch and bound. Assumes nothing.
-use Rattle.std.specs.Prelude.{ℕ, zero, suc, ◌+◌, ◌-◌, true, false, cond, List, [], ◌∷◌, map, length, Some, None, Option}
+use Rattle.std.specs.Prelude.{ℕ, zero, suc, ◌+◌, true, false, cond, List, [], ◌∷◌, map, length, Some, None, Option}
 use Rattle.kinds.specs.Semiring.{Semiring}
 use Rattle.table.specs.Circuit.{Shape, Vars}
 use Rattle.table.specs.Count.{figure}
-use Rattle.table.specs.Facts.{about}
 use Rattle.table.specs.Sound.{Roles, options, chances}
 use Rattle.passes.specs.Holding.{Entries, free, selected}
 use Rattle.passes.specs.Marks.{with_entry}
@@ -11,6 +10,7 @@ use Rattle.passes.specs.Passes.{Part, root_part, bound}
 use Rattle.passes.specs.declared.holds.Entry.TheVariants.{On, Off}
 use Rattle.search.specs.declared.found.Found.{Found}
 use Rattle.search.specs.declared.found.Selection.{Selection}
+use Rattle.search.specs.Listing.{root_mentions}
 use Rattle.search.specs.Orders.{Lean, Order}
 
 -- what branch and bound asks of holds: their bound, the figure of the selection held, and the option to branch on, or 0
@@ -61,7 +61,7 @@ named pick (l ∷ ls) = pick (l ∷ ls)
 
 module _ {F : Type 0} (R : Semiring F) (pick : Order F) (rs : Roles) (ss : List Shape) (sheet : List F) where
   abbrev pub leans : Entries → List (Lean F)
-  leans h = map (lean_of (root_part R rs sheet ss h) (about ss (length ss - 1))) (free rs h)
+  leans h = map (lean_of (root_part R rs sheet ss h) (root_mentions ss)) (free rs h)
 
   abbrev pub of_table : Branching F
   of_table = record {

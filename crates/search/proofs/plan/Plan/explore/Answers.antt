@@ -67,6 +67,6 @@ branches-preserved-in-Some g c =
     let v = option_is _ c.in-Some.option (sym c.in-Some.is ∙ c.open.ensures.option) in
     record {
       walking = walk_fork c.branches.invariant.walking c.open.ensures.found (few g (goal.at.branches-preserved-in-Some g c).After-options-levels) v.0 (omega (arith, v))
-          (named_free g.K.Figure.ring pick law (roles t) (circuit t) c.args.self.now.sheet.now c.branches.current.entries) c.hold.ensures;
+          (named_free g.K.Figure.ring pick law (roles t) c.branches.current.entries (circuit t) c.args.self.now.sheet.now) c.hold.ensures;
       behind = c.open.ensures.work ∙ c.branches.invariant.behind;
     }
