@@ -17,9 +17,9 @@ BehindKept t before after = drop (places t) after ≡ drop (places t) before
 
 module _ {F : Type 0} (R : Semiring F) (t : Table) (h : Entries) (sheet : List F) where
   -- the counting values of the selection held, in the first places of the work table
-  abbrev pub counted : List F → List F
-  counted w = counts R (roles t) sheet (circuit t) (selected h) ++ drop (length (circuit t)) w
+  abbrev pub counts_left : List F → List F
+  counts_left w = counts R (roles t) sheet (circuit t) (selected h) ++ drop (length (circuit t)) w
 
   -- the pair pass under the holds, in the first places of the work table
-  abbrev pub paired : List F → List F
-  paired w = work R (roles t) sheet (pairs R (roles t) sheet (circuit t) h) ++ drop (places t) w
+  abbrev pub pairs_left : List F → List F
+  pairs_left w = work R (roles t) sheet (pairs R (roles t) sheet (circuit t) h) ++ drop (places t) w

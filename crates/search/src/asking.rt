@@ -7,7 +7,7 @@ ghost use Rattle.table.specs.Whole.{circuit, roles};
 ghost use Rattle.passes.specs.Holding.{selected};
 ghost use Rattle.passes.specs.Passes.{bound as bound_of};
 ghost use Rattle.search.specs.Best.{BestOrNone};
-ghost use Rattle.search.specs.Calls.{counted, paired, BehindKept};
+ghost use Rattle.search.specs.Calls.{counts_left, pairs_left, BehindKept};
 ghost use Rattle.search.specs.Day.{Bounded};
 ghost use Rattle.search.specs.Select.{select as select_of};
 ghost use Rattle.search.specs.Study.{answered, changed_to, figure_tests, bound_tests};
@@ -33,7 +33,7 @@ pub fn figure<K: Figure>(
 ) -> Result<K, Fault>
     ensures answer { result ≡ answered (figure_tests (roles table.now) (circuit table.now) (length sheet.now.figures.now) (length work.old) holds.now.entries) (figure_of K.ring (circuit table.now) (chances (roles table.now)) sheet.now.figures.now (selected holds.now.entries)) }
     ensures behind { BehindKept table.now work.old work.new }
-    ensures work { work.new ≡ changed_to (figure_tests (roles table.now) (circuit table.now) (length sheet.now.figures.now) (length work.old) holds.now.entries) (counted K.ring table.now holds.now.entries sheet.now.figures.now work.old) work.old }
+    ensures work { work.new ≡ changed_to (figure_tests (roles table.now) (circuit table.now) (length sheet.now.figures.now) (length work.old) holds.now.entries) (counts_left K.ring table.now holds.now.entries sheet.now.figures.now work.old) work.old }
 {
     require_sheet(table, sheet.figures.len())?;
     require_no_stray(table, holds)?;
@@ -57,7 +57,7 @@ pub fn bound<K: Figure>(
     ensures answer { result ≡ answered (bound_tests (roles table.now) (circuit table.now) (length sheet.now.figures.now) (length work.old) holds.now.entries) (bound_of K.ring (roles table.now) sheet.now.figures.now (circuit table.now) holds.now.entries) }
     ensures behind { BehindKept table.now work.old work.new }
     ensures bounded { Bounded K.ring (roles table.now) (circuit table.now) holds.now.entries sheet.now.figures.now (bound_of K.ring (roles table.now) sheet.now.figures.now (circuit table.now) holds.now.entries) }
-    ensures work { work.new ≡ changed_to (bound_tests (roles table.now) (circuit table.now) (length sheet.now.figures.now) (length work.old) holds.now.entries) (paired K.ring table.now holds.now.entries sheet.now.figures.now work.old) work.old }
+    ensures work { work.new ≡ changed_to (bound_tests (roles table.now) (circuit table.now) (length sheet.now.figures.now) (length work.old) holds.now.entries) (pairs_left K.ring table.now holds.now.entries sheet.now.figures.now work.old) work.old }
 {
     require_sheet(table, sheet.figures.len())?;
     require_no_stray(table, holds)?;
