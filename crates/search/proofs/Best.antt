@@ -148,7 +148,7 @@ module _ {F : Type 0} (R : Semiring F) (laws : Laws R) (pick : Order F) (lawful 
   }
     where
       from_none : Outcome h None (select R pick rs ss sheet h).best
-      from_none = outcome (length (options rs)) h (start R pick rs ss sheet) room (free_within rs h)
+      from_none = outcome (length (options rs)) h start room (free_within rs h)
 
       best : (s : Selection F) → Outcome h None (Some s) → Best R rs ss sheet h s
       best s o = elim o.either [

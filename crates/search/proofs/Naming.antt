@@ -39,8 +39,8 @@ module _ {F : Type 0} (R : Semiring F) (pick : Order F) (law : Lawful pick) (rs 
   named_names (l ∷ ls) same = names_free l ls same
 
   module _ (ss : List Shape) (sheet : List F) where
-    pub next_names : Names (named pick (leans R pick rs ss sheet h))
-    next_names = named_names (leans R pick rs ss sheet h) (leans_numbers (root_part R rs sheet ss h) (root_mentions ss) (free rs h))
+    pub next_names : Names (named pick (leans R rs ss sheet h))
+    next_names = named_names (leans R rs ss sheet h) (leans_numbers (root_part R rs sheet ss h) (root_mentions ss) (free rs h))
 
-    pub named_free : (v : ℕ) → named pick (leans R pick rs ss sheet h) ≡ Some v → entry h v ≡ Free
+    pub named_free : (v : ℕ) → named pick (leans R rs ss sheet h) ≡ Some v → entry h v ≡ Free
     named_free v e = entry_free _ (free_option rs h v (subst Names e next_names)).1

@@ -13,6 +13,7 @@ pub record Lean (F : Type 0) : Type 0 where
   pub on : F
   pub off : F
 
+-- the numbers of the options that it is told of
 abbrev pub numbers : {F : Type 0} → List (Lean F) → List ℕ
 numbers ls = map (λ l. l.option) ls
 
@@ -85,6 +86,7 @@ lean_at R part c = record {
 abbrev pub told : {F : Type 0} → Semiring F → List F → List Choice → List (Lean F)
 told R part cs = map (lean_at R part) cs
 
+-- the numbers of the choices
 abbrev pub options_of : List Choice → List ℕ
 options_of cs = map (λ c. c.option) cs
 

@@ -56,20 +56,23 @@ abbrev pub named : {F : Type 0} → Order F → List (Lean F) → Option ℕ
 named pick [] = None
 named pick (l ∷ ls) = Some (pick (l ∷ ls))
 
-module _ {F : Type 0} (R : Semiring F) (pick : Order F) (rs : Roles) (ss : List Shape) (sheet : List F) where
-  abbrev pub leans : Entries → List (Lean F)
-  leans h = map (lean_of (root_part R rs sheet ss h) (root_mentions ss)) (free rs h)
+-- what an order is told under holds: the free options, by rising number
+abbrev pub leans : {F : Type 0} → Semiring F → Roles → List Shape → List F → Entries → List (Lean F)
+leans R rs ss sheet h = map (lean_of (root_part R rs sheet ss h) (root_mentions ss)) (free rs h)
 
+-- at first there is no best selection
+abbrev pub start : {F : Type 0} → Found F
+start = record { best = None; openings = 0 }
+
+module _ {F : Type 0} (R : Semiring F) (pick : Order F) (rs : Roles) (ss : List Shape) (sheet : List F) where
+  -- what branch and bound asks, for a table, a sheet and an order
   abbrev pub of_table : Branching F
   of_table = record {
     bound_of = λ h. bound R rs sheet ss h;
     figure_of = λ h. figure R ss (chances rs) sheet (selected h);
-    next = λ h. named pick (leans h);
+    next = λ h. named pick (leans R rs ss sheet h);
   }
 
-  -- at first there is no best selection
-  abbrev pub start : Found F
-  start = record { best = None; openings = 0 }
-
+  -- the best selection that keeps the holds, or none, and how many branches were opened
   abbrev pub select : Entries → Found F
   select h = explored R of_table (length (options rs)) h start

@@ -46,10 +46,11 @@ module _ (rs : Roles) where
   abbrev pub stray_hold : Entries → Bool × Fault
   stray_hold h = (list_any (λ v. not (is_option rs v) && not (is_free (entry h v))) (up_to 1 (length h)), StrayHold)
 
-  -- the number given is not that of an option, or of a chance
+  -- the number given is not that of an option
   abbrev pub no_option : ℕ → Bool × Fault
   no_option v = (not (is_option rs v), NoOption v)
 
+  -- the number given is not that of a chance
   abbrev pub no_chance : ℕ → Bool × Fault
   no_chance v = (not (known (length rs) v && not (is_option rs v)), NoChance v)
 
@@ -57,10 +58,11 @@ module _ (rs : Roles) where
   abbrev pub still_free : Entries → Bool × Fault
   still_free h = (list_any (λ v. is_free (entry h v)) (options rs), StillFree)
 
--- the option given is held, or is not
+-- the option given is held
 abbrev pub held_already : Entries → ℕ → Bool × Fault
 held_already h v = (not (is_free (entry_at h v)), Held v)
 
+-- the option given is free
 abbrev pub not_held : Entries → ℕ → Bool × Fault
 not_held h v = (is_free (entry_at h v), NotHeld v)
 

@@ -1,5 +1,5 @@
 -- The loop of branch and bound: a branch is opened, a trail leads to it, and the loop goes back along it. Assumes nothing.
-use Rattle.std.specs.Prelude.{ℕ, zero, suc, false, cond, List, Some, None, Option, get_or, slice_index_or, slice_set}
+use Rattle.std.specs.Prelude.{ℕ, zero, suc, false, cond, List, Some, None, Option, get_or, slice_set}
 use Rattle.kinds.specs.Semiring.{Semiring}
 use Rattle.passes.specs.Holding.{Entries}
 use Rattle.passes.specs.Marks.{with_entry}
@@ -36,5 +36,5 @@ unfoldable pub back : List Branch → ℕ → Entries → ℕ × List Branch × 
 back trail zero h = (0, trail, h)
 back trail (suc d) h =
     cond (get_or trail d no_branch).on
-    (suc d, slice_set trail d (off_side (slice_index_or trail d no_branch)), with_entry h (get_or trail d no_branch).option Off)
+    (suc d, slice_set trail d (off_side (get_or trail d no_branch)), with_entry h (get_or trail d no_branch).option Off)
     (back trail d (with_entry h (get_or trail d no_branch).option Free))

@@ -19,7 +19,7 @@ branches-init g c =
     let pick = g.O.BranchingOrder.picks c.args.self.now.order.now in
     let p = of_table R pick (roles t) (circuit t) c.args.self.now.sheet.now in
     record {
-      walking = walk_start R p c.options-levels.result c.args.holds.now.entries (start R pick (roles t) (circuit t) c.args.self.now.sheet.now);
+      walking = walk_start R p c.options-levels.result c.args.holds.now.entries start;
       behind = refl;
     }
 
@@ -38,7 +38,7 @@ returns-then-depth-eq0 g c =
     record {
       found = walk_end c.branches.invariant.walking c.open.ensures.found (few g (goal.at.returns-then-depth-eq0 g c).After-options-levels)
           (sym c.in-None.is ∙ c.open.ensures.option) b.depth b.trail b.holds c.if-depth-eq0.true
-          ∙ ap (λ n. explored R (of_table R pick (roles t) (circuit t) c.args.self.now.sheet.now) n c.args.holds.now.entries (start R pick (roles t) (circuit t) c.args.self.now.sheet.now))
+          ∙ ap (λ n. explored R (of_table R pick (roles t) (circuit t) c.args.self.now.sheet.now) n c.args.holds.now.entries start)
           (c.options-levels.ensures ∙ sym (options_many t));
       work = c.open.ensures.work ∙ c.branches.invariant.behind;
     }

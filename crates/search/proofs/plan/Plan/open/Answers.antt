@@ -74,7 +74,7 @@ next_is g c =
     let pick = g.O.BranchingOrder.picks c.args.self.now.order.now in
     c.next_option-next.ensures
     ∙ ap (λ ls. next_at c.args.levels (named pick ls))
-    (told_leans g.K.Figure.ring pick (roles t) (circuit t) c.args.self.now.sheet.now c.args.holds.now.entries stride ((length t.nodes.now - 1) * stride) _ _
+    (told_leans g.K.Figure.ring (roles t) (circuit t) c.args.self.now.sheet.now c.args.holds.now.entries stride ((length t.nodes.now - 1) * stride) _ _
     c.stride-stride.ensures (omega (arith, node_count t, some_node t)) (ap (λ n. (n - 1) * stride) (sym (node_count t))) c.pair_bound-bound.ensures.work)
 
 pub returns-then-is_none : goal.returns-then-is_none
