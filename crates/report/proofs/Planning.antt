@@ -1,5 +1,5 @@
 -- What is printed for a table and its weight text, by the answers on the way. Assumes nothing.
-use Rattle.std.proofs.Common.{◌≡◌, ℕ, List, [], ◌∷◌, length, drop, replicate, Ok, Err, Option, Result, String, sym, ap, ap₂, ◌∙◌, subst}
+use Rattle.std.proofs.Common.{◌≡◌, ℕ, List, [], ◌∷◌, length, drop, replicate, Some, None, Ok, Err, Option, Result, String, sym, refl, ap, ap₂, ◌∙◌, subst, arith}
 use Rattle.std.specs.Result.{IsErr, IsErrAnd}
 use Rattle.std.specs.declared.alloc.Global.{Global}
 use Rattle.kinds.specs.Semiring.{Semiring}
@@ -23,7 +23,7 @@ use Rattle.passes.specs.Holding.{Entries}
 use Rattle.passes.specs.Passes.{bound}
 use Rattle.search.specs.Orders.{Order}
 use Rattle.search.specs.Select.{select}
-use Rattle.search.specs.Study.{unheld, answered, bound_tests}
+use Rattle.search.specs.Study.{unheld, Tests, first_fit, answered, bound_tests}
 use Rattle.search.specs.Weights.{WeightReading, weights_say}
 use Rattle.search.specs.declared.fault.Fault.{Fault}
 use Rattle.search.specs.declared.found.Found.{Found}
@@ -47,34 +47,50 @@ module _ {A E : Type 0} (wrap : E → Fault) (answer : Result A E) (next : A →
   pub stopped : (e : E) → Err e ≡ answer → unless_refused wrap answer next ≡ refusal (wrap e) ∷ []
   stopped e is = ap (λ o. unless_refused wrap o next) (sym is)
 
+-- of one list of tests, every answer is refused alike
+
+abbrev answer_by : {A : Type 0} → Option Fault → A → Result A Fault
+answer_by o a = elim o [ None ↦ Ok a | Some f ↦ Err f ]
+
+module _ {A B : Type 0} (a : A) (b : B) where
+  refused_alike : (o : Option Fault) (f : Fault) → Err f ≡ answer_by o a → Err f ≡ answer_by o b
+  refused_alike None f e = absurd (let z : ◌≡◌ {A = ℕ} 0 1 = cc in omega arith)
+  refused_alike (Some g) f e = let same : f ≡ g = cc in ap Err same
+
+  accepted_alike : (o : Option Fault) (x : A) → Ok x ≡ answer_by o a → (x ≡ a) × (Ok b ≡ answer_by o b)
+  accepted_alike None x e = (cc, refl)
+  accepted_alike (Some g) x e = absurd (let z : ◌≡◌ {A = ℕ} 0 1 = cc in omega arith)
+
 module _ {F : Type 0} (R : Semiring F) (text : F → List ℕ) (pick : Order F) (vs : Variables) (ss : List Shape) where
   -- bound and select, with holds that are none
 
   module _ (size : ℕ) (sheet : List F) (h : Entries) (new : h ≡ unheld) where
-    abbrev bound_says : ℕ → Entries → Result F Fault
-    bound_says n e = answered (bound_tests (roles_of vs) ss (length sheet) n e) (bound R (roles_of vs) sheet ss e)
+    abbrev tests : ℕ → Entries → Tests
+    tests n e = bound_tests (roles_of vs) ss (length sheet) n e
 
-    abbrev select_says : ℕ → Entries → Result (Found F) Fault
-    select_says n e = answered (bound_tests (roles_of vs) ss (length sheet) n e) (select R pick (roles_of vs) ss sheet e)
+    abbrev bound_of : Entries → F
+    bound_of e = bound R (roles_of vs) sheet ss e
 
-    abbrev selected_lines : F → Lines
-    selected_lines most = unless_refused (λ f. f) (select_says size unheld) (report_of text (listed vs) most)
+    abbrev found_of : Entries → Found F
+    found_of e = select R pick (roles_of vs) ss sheet e
 
-    module _ (n : ℕ) (same : n ≡ size) where
-      pub unbounded : (f : Fault) → Err f ≡ bound_says n h → study_report R text pick size vs ss sheet ≡ refusal f ∷ []
-      unbounded f is = stopped (λ e. e) (bound_says size unheld) selected_lines f (is ∙ ap (λ k. bound_says k h) same ∙ ap (bound_says size) new)
+    abbrev lines : Unit {0} → Lines
+    lines _ = report_of text (listed vs) (bound_of unheld) (found_of unheld)
 
-      module _ (most : F) (is : Ok most ≡ bound_says n h) (k : ℕ) (kept : k ≡ size) where
-        bounded : study_report R text pick size vs ss sheet ≡ selected_lines most
-        bounded = passed (λ e. e) (bound_says size unheld) selected_lines most (is ∙ ap (λ j. bound_says j h) same ∙ ap (bound_says size) new)
+    at_room : {A : Type 0} (x : A) (n : ℕ) → n ≡ size → answered (tests n h) x ≡ answered (tests size unheld) x
+    at_room x n same = ap₂ (λ k e. answered (tests k e) x) same new
 
-        pub unselected : (f : Fault) → Err f ≡ select_says k h → study_report R text pick size vs ss sheet ≡ refusal f ∷ []
-        unselected f got =
-            bounded ∙ stopped (λ e. e) (select_says size unheld) (report_of text (listed vs) most) f (got ∙ ap (λ j. select_says j h) kept ∙ ap (select_says size) new)
+    pub unanswered : {A : Type 0} (x : A) (n : ℕ) → n ≡ size → (f : Fault) → Err f ≡ answered (tests n h) x → study_report R text pick size vs ss sheet ≡ refusal f ∷ []
+    unanswered x n same f is =
+        stopped (λ e. e) (answered (tests size unheld) (tt {0})) lines f (refused_alike x (tt {0}) (first_fit (tests size unheld)) f (is ∙ at_room x n same))
 
-        pub selected : (found : Found F) → Ok found ≡ select_says k h → study_report R text pick size vs ss sheet ≡ report_of text (listed vs) most found
-        selected found got =
-            bounded ∙ passed (λ e. e) (select_says size unheld) (report_of text (listed vs) most) found (got ∙ ap (λ j. select_says j h) kept ∙ ap (select_says size) new)
+    pub selected : (n : ℕ) → n ≡ size → (most : F) → Ok most ≡ answered (tests n h) (bound_of h)
+        → (k : ℕ) → k ≡ size → (found : Found F) → Ok found ≡ answered (tests k h) (found_of h) → study_report R text pick size vs ss sheet ≡ report_of text (listed vs) most found
+    selected n same most is k kept found got =
+        let b = accepted_alike (bound_of h) (tt {0}) (first_fit (tests size unheld)) most (is ∙ at_room (bound_of h) n same) in
+        let s = accepted_alike (found_of h) (tt {0}) (first_fit (tests size unheld)) found (got ∙ at_room (found_of h) k kept) in
+        passed (λ e. e) (answered (tests size unheld) (tt {0})) lines (tt {0}) b.1
+        ∙ sym (ap₂ (report_of text (listed vs)) (b.0 ∙ ap bound_of new) (s.0 ∙ ap found_of new))
 
   -- the weight text, read into a sheet of so many zeros
 

@@ -36,9 +36,8 @@ module _ {F : Type 0} (R : Semiring F) (text : F → List ℕ) (pick : Order F) 
   -- for a sheet and a work table of so many figures: bound and select, where nothing is held
   abbrev pub study_report : (work-size : ℕ) → Variables → List Shape → List F → Lines
   study_report size vs ss sheet =
-      unless_refused (λ f. f) (answered (bound_tests (roles_of vs) ss (length sheet) size unheld) (bound R (roles_of vs) sheet ss unheld)) (λ most.
-      unless_refused (λ f. f) (answered (bound_tests (roles_of vs) ss (length sheet) size unheld) (select R pick (roles_of vs) ss sheet unheld)) (λ found.
-      report_of text (listed vs) most found))
+      unless_refused (λ f. f) (answered (bound_tests (roles_of vs) ss (length sheet) size unheld) (tt {0})) (λ _.
+      report_of text (listed vs) (bound R (roles_of vs) sheet ss unheld) (select R pick (roles_of vs) ss sheet unheld))
 
   -- figures are read by `reading`
   module _ (reading : List ℕ → Option F) where
