@@ -43,7 +43,7 @@ module _ {X Y F : Type 0} (bytes : X → List ℕ) (text : F → List ℕ) (r : 
       e
       ∙ ap (λ l. codes "S" ++ 9 ∷ (l ++ 9 ∷ (decimal found.openings ++ (names ++ 10 ∷ [])))) (ef ∙ ap (best_text text) (sym best))
       ∙ ap (λ l. codes "S" ++ 9 ∷ (best_text text found.best ++ 9 ∷ (decimal found.openings ++ l)))
-      (ap (λ l. l ++ 10 ∷ []) (en plain) ∙ tabs_ended (names_on s.holds.entries 1 vs) ∙ ap (λ o. fields_onto (best_names text vs o) []) (sym best))) printed
+      (ap (λ l. l ++ 10 ∷ []) (en plain) ∙ tabs_ended (names_on s.holds.entries 1 vs) ∙ ap (λ o. fields_onto (best_names vs o) []) (sym best))) printed
 
   pub report_printed : (f : F) (bound best : List ℕ) → bound ≡ text f → (PlainNames vs → best ≡ text_of (selection_line text vs found ∷ [])) → IfOk r (λ x. bytes x ≡ codes "B\t" ++ (bound ++ (codes "\n" ++ best))) → IfOk r (λ x. PlainNames vs → bytes x ≡ text_of (report_of text vs f found))
   report_printed f bound best eb es printed =

@@ -1,5 +1,5 @@
 -- What is printed for a table and its weight text, by the answers on the way. Assumes nothing.
-use Rattle.std.proofs.Common.{◌≡◌, ℕ, List, [], ◌∷◌, length, drop, replicate, Ok, Err, Option, Result, String, sym, ap, ap₂, ◌∙◌, subst}
+use Rattle.std.proofs.Common.{◌≡◌, ℕ, List, [], ◌∷◌, length, drop, replicate, Some, None, Ok, Err, Option, Result, String, sym, refl, ap, ap₂, ◌∙◌, subst, arith}
 use Rattle.std.specs.Result.{IsErr, IsErrAnd}
 use Rattle.std.specs.declared.alloc.Global.{Global}
 use Rattle.kinds.specs.Semiring.{Semiring}
@@ -23,20 +23,20 @@ use Rattle.passes.specs.Holding.{Entries}
 use Rattle.passes.specs.Passes.{bound}
 use Rattle.search.specs.Orders.{Order}
 use Rattle.search.specs.Select.{select}
-use Rattle.search.specs.Study.{answered, bound_tests}
-use Rattle.search.specs.Weights.{Reading, weights_say}
+use Rattle.search.specs.Study.{unheld, Tests, first_fit, answered, bound_tests}
+use Rattle.search.specs.Weights.{WeightReading, weights_say}
 use Rattle.search.specs.declared.fault.Fault.{Fault}
 use Rattle.search.specs.declared.found.Found.{Found}
 use Rattle.report.specs.Report.{refusal, report_of}
-use Rattle.report.specs.Plant.{no_holds, sheet_room, work_room, unless_refused, asked, weighed, checked, plant_report}
-use Rattle.report.specs.Stops.{Says}
+use Rattle.report.specs.Plant.{sheet_room, work_room, unless_refused, study_report, table_report, parts_report, plant_report}
+use Rattle.report.specs.Stops.{Prints}
 use Rattle.report.specs.declared.stop.Stop.{Stop}
 use Rattle.report.specs.declared.stop.Stop.TheVariants.{Refused, NoMemory}
 
 -- a refusal that `?` hands on
-pub refused_says : (P : Type 0) (ls : Lines) (f : Fault) (r : Result (String Global) Stop) → IsErr r × IsErrAnd r (λ s. s ≡ Refused f) → ls ≡ refusal f ∷ [] → Says P ls r
+pub refused_says : (P : Type 0) (ls : Lines) (f : Fault) (r : Result (String Global) Stop) → IsErr r × IsErrAnd r (λ s. s ≡ Refused f) → ls ≡ refusal f ∷ [] → Prints P ls r
 refused_says P ls f (Ok s) h e = absurd (cc h.0)
-refused_says P ls f (Err s) h e = let Q : Stop → Type 0 = λ t. Says P ls (Err t) in subst Q (sym h.1) e
+refused_says P ls f (Err s) h e = let Q : Stop → Type 0 = λ t. Prints P ls (Err t) in subst Q (sym h.1) e
 
 -- what follows an answer
 
@@ -47,69 +47,85 @@ module _ {A E : Type 0} (wrap : E → Fault) (answer : Result A E) (next : A →
   pub stopped : (e : E) → Err e ≡ answer → unless_refused wrap answer next ≡ refusal (wrap e) ∷ []
   stopped e is = ap (λ o. unless_refused wrap o next) (sym is)
 
+-- of one list of tests, every answer is refused alike
+
+abbrev answer_by : {A : Type 0} → Option Fault → A → Result A Fault
+answer_by o a = elim o [ None ↦ Ok a | Some f ↦ Err f ]
+
+module _ {A B : Type 0} (a : A) (b : B) where
+  refused_alike : (o : Option Fault) (f : Fault) → Err f ≡ answer_by o a → Err f ≡ answer_by o b
+  refused_alike None f e = absurd (let z : ◌≡◌ {A = ℕ} 0 1 = cc in omega arith)
+  refused_alike (Some g) f e = let same : f ≡ g = cc in ap Err same
+
+  accepted_alike : (o : Option Fault) (x : A) → Ok x ≡ answer_by o a → (x ≡ a) × (Ok b ≡ answer_by o b)
+  accepted_alike None x e = (cc, refl)
+  accepted_alike (Some g) x e = absurd (let z : ◌≡◌ {A = ℕ} 0 1 = cc in omega arith)
+
 module _ {F : Type 0} (R : Semiring F) (text : F → List ℕ) (pick : Order F) (vs : Variables) (ss : List Shape) where
   -- bound and select, with holds that are none
 
-  module _ (size : ℕ) (sheet : List F) (h : Entries) (new : h ≡ no_holds) where
-    abbrev bound_says : ℕ → Entries → Result F Fault
-    bound_says n e = answered (bound_tests (roles_of vs) ss (length sheet) n e) (bound R (roles_of vs) sheet ss e)
+  module _ (size : ℕ) (sheet : List F) (h : Entries) (new : h ≡ unheld) where
+    abbrev tests : ℕ → Entries → Tests
+    tests n e = bound_tests (roles_of vs) ss (length sheet) n e
 
-    abbrev select_says : ℕ → Entries → Result (Found F) Fault
-    select_says n e = answered (bound_tests (roles_of vs) ss (length sheet) n e) (select R pick (roles_of vs) ss sheet e)
+    abbrev bound_of : Entries → F
+    bound_of e = bound R (roles_of vs) sheet ss e
 
-    abbrev selected_lines : F → Lines
-    selected_lines most = unless_refused (λ f. f) (select_says size no_holds) (report_of text (listed vs) most)
+    abbrev found_of : Entries → Found F
+    found_of e = select R pick (roles_of vs) ss sheet e
 
-    module _ (n : ℕ) (same : n ≡ size) where
-      pub unbounded : (f : Fault) → Err f ≡ bound_says n h → asked R text pick size vs ss sheet ≡ refusal f ∷ []
-      unbounded f is = stopped (λ e. e) (bound_says size no_holds) selected_lines f (is ∙ ap (λ k. bound_says k h) same ∙ ap (bound_says size) new)
+    abbrev lines : Unit {0} → Lines
+    lines _ = report_of text (listed vs) (bound_of unheld) (found_of unheld)
 
-      module _ (most : F) (is : Ok most ≡ bound_says n h) (k : ℕ) (kept : k ≡ size) where
-        bounded : asked R text pick size vs ss sheet ≡ selected_lines most
-        bounded = passed (λ e. e) (bound_says size no_holds) selected_lines most (is ∙ ap (λ j. bound_says j h) same ∙ ap (bound_says size) new)
+    at_room : {A : Type 0} (x : A) (n : ℕ) → n ≡ size → answered (tests n h) x ≡ answered (tests size unheld) x
+    at_room x n same = ap₂ (λ k e. answered (tests k e) x) same new
 
-        pub unselected : (f : Fault) → Err f ≡ select_says k h → asked R text pick size vs ss sheet ≡ refusal f ∷ []
-        unselected f got =
-            bounded ∙ stopped (λ e. e) (select_says size no_holds) (report_of text (listed vs) most) f (got ∙ ap (λ j. select_says j h) kept ∙ ap (select_says size) new)
+    pub unanswered : {A : Type 0} (x : A) (n : ℕ) → n ≡ size → (f : Fault) → Err f ≡ answered (tests n h) x → study_report R text pick size vs ss sheet ≡ refusal f ∷ []
+    unanswered x n same f is =
+        stopped (λ e. e) (answered (tests size unheld) (tt {0})) lines f (refused_alike x (tt {0}) (first_fit (tests size unheld)) f (is ∙ at_room x n same))
 
-        pub selected : (found : Found F) → Ok found ≡ select_says k h → asked R text pick size vs ss sheet ≡ report_of text (listed vs) most found
-        selected found got =
-            bounded ∙ passed (λ e. e) (select_says size no_holds) (report_of text (listed vs) most) found (got ∙ ap (λ j. select_says j h) kept ∙ ap (select_says size) new)
+    pub selected : (n : ℕ) → n ≡ size → (most : F) → Ok most ≡ answered (tests n h) (bound_of h)
+        → (k : ℕ) → k ≡ size → (found : Found F) → Ok found ≡ answered (tests k h) (found_of h) → study_report R text pick size vs ss sheet ≡ report_of text (listed vs) most found
+    selected n same most is k kept found got =
+        let b = accepted_alike (bound_of h) (tt {0}) (first_fit (tests size unheld)) most (is ∙ at_room (bound_of h) n same) in
+        let s = accepted_alike (found_of h) (tt {0}) (first_fit (tests size unheld)) found (got ∙ at_room (found_of h) k kept) in
+        passed (λ e. e) (answered (tests size unheld) (tt {0})) lines (tt {0}) b.1
+        ∙ sym (ap₂ (report_of text (listed vs)) (b.0 ∙ ap bound_of new) (s.0 ∙ ap found_of new))
 
   -- the weight text, read into a sheet of so many zeros
 
   module _ (reading : List ℕ → Option F) (size : ℕ) (zeros start : List F) (blank : start ≡ zeros) (weights : List ℕ) where
-    abbrev read_into : List F → Reading F
+    abbrev read_into : List F → WeightReading F
     read_into sheet = weights_say reading (roles_of vs) R.one sheet weights
 
-    pub unread : (f : Fault) → Err f ≡ (read_into start).answer → weighed R text pick reading size vs ss zeros weights ≡ refusal f ∷ []
-    unread f is = stopped (λ e. e) (read_into zeros).answer (λ _. asked R text pick size vs ss (read_into zeros).sheet) f (is ∙ ap (λ s. (read_into s).answer) blank)
+    pub unread : (f : Fault) → Err f ≡ (read_into start).answer → table_report R text pick reading size vs ss zeros weights ≡ refusal f ∷ []
+    unread f is = stopped (λ e. e) (read_into zeros).answer (λ _. study_report R text pick size vs ss (read_into zeros).sheet) f (is ∙ ap (λ s. (read_into s).answer) blank)
 
-    pub read : Ok tt ≡ (read_into start).answer → (sheet : List F) → sheet ≡ (read_into start).sheet → weighed R text pick reading size vs ss zeros weights ≡ asked R text pick size vs ss sheet
+    pub read : Ok tt ≡ (read_into start).answer → (sheet : List F) → sheet ≡ (read_into start).sheet → table_report R text pick reading size vs ss zeros weights ≡ study_report R text pick size vs ss sheet
     read is sheet left =
-        passed (λ e. e) (read_into zeros).answer (λ _. asked R text pick size vs ss (read_into zeros).sheet) tt (is ∙ ap (λ s. (read_into s).answer) blank)
-        ∙ ap (asked R text pick size vs ss) (sym (left ∙ ap (λ s. (read_into s).sheet) blank))
+        passed (λ e. e) (read_into zeros).answer (λ _. study_report R text pick size vs ss (read_into zeros).sheet) tt (is ∙ ap (λ s. (read_into s).answer) blank)
+        ∙ ap (study_report R text pick size vs ss) (sym (left ∙ ap (λ s. (read_into s).sheet) blank))
 
 -- a file whose parts are accepted
 
 -- under what is known of the names
-pub says_of : (P : Type 0) (ls ms : Lines) (r : Result (String Global) Stop) → P → ms ≡ ls → Says P ls r → Says (Unit {0}) ms r
+pub says_of : (P : Type 0) (ls ms : Lines) (r : Result (String Global) Stop) → P → ms ≡ ls → Prints P ls r → Prints (Unit {0}) ms r
 says_of P ls ms (Ok s) p e h = λ _. h p ∙ ap text_of (sym e)
 says_of P ls ms (Err (Refused f)) p e h = e ∙ h
 says_of P ls ms (Err (NoMemory m)) p e h = tt
 
 module _ {F : Type 0} (R : Semiring F) (text : F → List ℕ) (pick : Order F) (reading : List ℕ → Option F) (file : List ℕ) (p : Parts) (a : ArePartsOf largest file p) where
   abbrev rest : Contents → Lines
-  rest c = checked R text pick reading c.variables (read_from largest file).nodes (read_from largest file).children (drop c.weights file)
+  rest c = parts_report R text pick reading c.variables (read_from largest file).nodes (read_from largest file).children (drop c.weights file)
 
-  read_file : plant_report R text pick reading file ≡ checked R text pick reading p.contents.variables p.nodes.items p.children.items (drop p.contents.weights file)
+  read_file : plant_report R text pick reading file ≡ parts_report R text pick reading p.contents.variables p.nodes.items p.children.items (drop p.contents.weights file)
   read_file =
       passed (λ f. Table (Text f)) (read_from largest file).answer rest p.contents (sym a.is_accepted)
-      ∙ ap₂ (λ ns cs. checked R text pick reading p.contents.variables ns cs (drop p.contents.weights file)) (sym a.nodes_are) (sym a.children_are)
+      ∙ ap₂ (λ ns cs. parts_report R text pick reading p.contents.variables ns cs (drop p.contents.weights file)) (sym a.nodes_are) (sym a.children_are)
 
   module _ (ns : List Node) (cs : List ℕ) (en : ns ≡ p.nodes.items) (ec : cs ≡ p.children.items) where
     abbrev next : Mentions → Lines
-    next m = weighed R text pick reading work_room p.contents.variables (shapes p.children.items p.nodes.items) (replicate sheet_room R.zero) (drop p.contents.weights file)
+    next m = table_report R text pick reading work_room p.contents.variables (shapes p.children.items p.nodes.items) (replicate sheet_room R.zero) (drop p.contents.weights file)
 
     pub unchecked : (f : table.Fault) → check_says p.contents.variables ns cs ≡ Err f → plant_report R text pick reading file ≡ refusal (Table f) ∷ []
     unchecked f e =
@@ -117,9 +133,9 @@ module _ {F : Type 0} (R : Semiring F) (text : F → List ℕ) (pick : Order F) 
 
     pub checked_file : (m : Mentions) (t : table_struct.Table) (weights : List ℕ) → t.nodes.now ≡ ns → t.children.now ≡ cs → t.variables ≡ p.contents.variables → check_says p.contents.variables ns cs ≡ Ok m
         → weights ≡ drop p.contents.weights file
-        → plant_report R text pick reading file ≡ weighed R text pick reading work_room t.variables (circuit t) (replicate sheet_room R.zero) weights
+        → plant_report R text pick reading file ≡ table_report R text pick reading work_room t.variables (circuit t) (replicate sheet_room R.zero) weights
     checked_file m t weights tn tc tv e w =
         read_file
         ∙ passed Table (check_says p.contents.variables p.nodes.items p.children.items) next m (sym e ∙ ap₂ (check_says p.contents.variables) en ec)
-        ∙ ap₂ (λ vs ss. weighed R text pick reading work_room vs ss (replicate sheet_room R.zero) (drop p.contents.weights file)) (sym tv) (ap₂ shapes (sym (tc ∙ ec)) (sym (tn ∙ en)))
-        ∙ ap (weighed R text pick reading work_room t.variables (circuit t) (replicate sheet_room R.zero)) (sym w)
+        ∙ ap₂ (λ vs ss. table_report R text pick reading work_room vs ss (replicate sheet_room R.zero) (drop p.contents.weights file)) (sym tv) (ap₂ shapes (sym (tc ∙ ec)) (sym (tn ∙ en)))
+        ∙ ap (table_report R text pick reading work_room t.variables (circuit t) (replicate sheet_room R.zero)) (sym w)

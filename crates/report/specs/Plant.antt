@@ -9,28 +9,23 @@ use Rattle.table.specs.Check.{check_says}
 use Rattle.table.specs.Circuit.{Shape}
 use Rattle.table.specs.Nodes.{shapes, roles_of}
 use Rattle.table.specs.declared.fault.Fault.TheVariants.{Text}
-use Rattle.passes.specs.Holding.{Entries}
 use Rattle.passes.specs.Passes.{bound}
-use Rattle.passes.specs.declared.holds.Entry.TheVariants.{Free}
 use Rattle.search.specs.Orders.{Order}
 use Rattle.search.specs.Select.{select}
-use Rattle.search.specs.Study.{answered, bound_tests}
+use Rattle.search.specs.Study.{unheld, answered, bound_tests}
 use Rattle.search.specs.Weights.{weights_say}
 use Rattle.search.specs.declared.fault.Fault.{Fault}
 use Rattle.search.specs.declared.fault.Fault.TheVariants.{Table}
 use Rattle.parts.specs.Parts.{largest, read_from}
 use Rattle.report.specs.Report.{refusal, report_of}
 
--- the figures of the sheet, and of the work table
-
+-- how many figures the sheet has
 abbrev pub sheet_room : ℕ
 sheet_room = 128
 
+-- how many figures the work table has
 abbrev pub work_room : ℕ
 work_room = 4096
-
-abbrev pub no_holds : Entries
-no_holds = replicate 64 Free
 
 -- what follows an answer; for a refusal, which a fault of this layer holds whole, its line alone
 abbrev pub unless_refused : {A E : Type 0} → (E → Fault) → Result A E → (A → Lines) → Lines
@@ -39,28 +34,27 @@ unless_refused wrap (Err e) next = refusal (wrap e) ∷ []
 
 module _ {F : Type 0} (R : Semiring F) (text : F → List ℕ) (pick : Order F) where
   -- for a sheet and a work table of so many figures: bound and select, where nothing is held
-  abbrev pub asked : (work-size : ℕ) → Variables → List Shape → List F → Lines
-  asked size vs ss sheet =
-      unless_refused (λ f. f) (answered (bound_tests (roles_of vs) ss (length sheet) size no_holds) (bound R (roles_of vs) sheet ss no_holds)) (λ most.
-      unless_refused (λ f. f) (answered (bound_tests (roles_of vs) ss (length sheet) size no_holds) (select R pick (roles_of vs) ss sheet no_holds)) (λ found.
-      report_of text (listed vs) most found))
+  abbrev pub study_report : (work-size : ℕ) → Variables → List Shape → List F → Lines
+  study_report size vs ss sheet =
+      unless_refused (λ f. f) (answered (bound_tests (roles_of vs) ss (length sheet) size unheld) (tt {0})) (λ _.
+      report_of text (listed vs) (bound R (roles_of vs) sheet ss unheld) (select R pick (roles_of vs) ss sheet unheld))
 
   -- figures are read by `reading`
   module _ (reading : List ℕ → Option F) where
     -- for a sheet, a work table, and the weight text of a checked table
-    abbrev pub weighed : (work-size : ℕ) → Variables → List Shape → List F → List ℕ → Lines
-    weighed size vs ss sheet weights =
+    abbrev pub table_report : (work-size : ℕ) → Variables → List Shape → List F → List ℕ → Lines
+    table_report size vs ss sheet weights =
         unless_refused (λ f. f) (weights_say reading (roles_of vs) R.one sheet weights).answer (λ _.
-        asked size vs ss (weights_say reading (roles_of vs) R.one sheet weights).sheet)
+        study_report size vs ss (weights_say reading (roles_of vs) R.one sheet weights).sheet)
 
     -- for a table that was read, with its weight text
-    abbrev pub checked : Variables → List Node → List ℕ → List ℕ → Lines
-    checked vs ns cs weights =
+    abbrev pub parts_report : Variables → List Node → List ℕ → List ℕ → Lines
+    parts_report vs ns cs weights =
         unless_refused Table (check_says vs ns cs) (λ _.
-        weighed work_room vs (shapes cs ns) (replicate sheet_room R.zero) weights)
+        table_report work_room vs (shapes cs ns) (replicate sheet_room R.zero) weights)
 
     -- for a file
     abbrev pub plant_report : List ℕ → Lines
     plant_report file =
         unless_refused (λ f. Table (Text f)) (read_from largest file).answer (λ c.
-        checked c.variables (read_from largest file).nodes (read_from largest file).children (drop c.weights file))
+        parts_report c.variables (read_from largest file).nodes (read_from largest file).children (drop c.weights file))

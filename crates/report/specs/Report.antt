@@ -26,19 +26,21 @@ names_on h number (v ∷ vs) =
     (spelled v.name ∷ names_on h (number + 1) vs)
     (names_on h (number + 1) vs)
 
+-- the names of the options that the best selection has on, if there is one
+abbrev pub best_names : {F : Type 0} → List Variable → Option (Selection F) → List (List ℕ)
+best_names vs None = []
+best_names vs (Some s) = names_on s.holds.entries 1 vs
+
 -- of figures that have a text
 module _ {F : Type 0} (text : F → List ℕ) where
   -- B and the bound
   abbrev pub bound_line : F → List (List ℕ)
   bound_line f = codes "B" ∷ text f ∷ []
 
+  -- the best selection's figure, or the word none
   abbrev pub best_text : Option (Selection F) → List ℕ
   best_text None = codes "none"
   best_text (Some s) = text s.figure
-
-  abbrev pub best_names : List Variable → Option (Selection F) → List (List ℕ)
-  best_names vs None = []
-  best_names vs (Some s) = names_on s.holds.entries 1 vs
 
   -- S, the best selection's figure, the openings, and the names of the options that it has on
   abbrev pub selection_line : List Variable → Found F → List (List ℕ)

@@ -7,7 +7,7 @@ use Rattle.report.specs.declared.stop.Stop.{Stop}
 use Rattle.report.specs.declared.stop.Stop.TheVariants.{Refused, NoMemory}
 
 -- a text is these lines, under what is taken for granted; a refusal is the only line; without memory nothing is said
-abbrev pub Says : Type 0 → Lines → Result (String Global) Stop → Type 0
-Says P ls (Ok s) = P → string_bytes s ≡ text_of ls
-Says P ls (Err (Refused f)) = ls ≡ refusal f ∷ []
-Says P ls (Err (NoMemory e)) = Unit {0}
+abbrev pub Prints : Type 0 → Lines → Result (String Global) Stop → Type 0
+Prints P ls (Ok s) = P → string_bytes s ≡ text_of ls
+Prints P ls (Err (Refused f)) = ls ≡ refusal f ∷ []
+Prints P ls (Err (NoMemory e)) = Unit {0}

@@ -3,8 +3,8 @@ ghost use Rattle.std.specs.Prelude.{◌≡◌, replicate, IfOk, string_bytes};
 ghost use Rattle.text.specs.Format.{listed};
 ghost use Rattle.text.specs.Printed.{text_of, PlainNames};
 ghost use Rattle.table.specs.Whole.{circuit};
-ghost use Rattle.report.specs.Plant.{sheet_room, work_room, weighed, plant_report};
-ghost use Rattle.report.specs.Stops.{Says};
+ghost use Rattle.report.specs.Plant.{sheet_room, work_room, table_report, plant_report};
+ghost use Rattle.report.specs.Stops.{Prints};
 
 use crate::answer::report_text;
 use crate::stop::Stop;
@@ -44,7 +44,7 @@ fn file_report<K: Written, O: BranchingOrder<K>>(
     order: &O,
     file: &[u8],
 ) -> Result<String, Stop>
-    ensures { Says (Unit {0}) (plant_report K.ring K.text (O.picks order.now) K.reading file.now) result }
+    ensures { Prints (Unit {0}) (plant_report K.ring K.text (O.picks order.now) K.reading file.now) result }
 {
     let room = Room::largest();
     let parts = Parts::read(heap, &room, file)??;
@@ -59,7 +59,7 @@ fn table_report<K: Written, O: BranchingOrder<K>>(
     table: &Table,
     weights: &[u8],
 ) -> Result<String, Stop>
-    ensures { Says (PlainNames (listed table.now.variables)) (weighed K.ring K.text (O.picks order.now) K.reading work_room table.now.variables (circuit table.now) (replicate sheet_room K.ring.zero) weights.now) result }
+    ensures { Prints (PlainNames (listed table.now.variables)) (table_report K.ring K.text (O.picks order.now) K.reading work_room table.now.variables (circuit table.now) (replicate sheet_room K.ring.zero) weights.now) result }
 {
     let mut figures = zeros::<K>(heap, LARGEST_SHEET)?;
     let mut work = zeros::<K>(heap, WORK_ROOM)?;

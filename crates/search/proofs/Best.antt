@@ -1,28 +1,25 @@
 -- Select names a best selection, and none if no figure ranks above zero. Assumes nothing.
-use Rattle.std.proofs.Common.{◌≡◌, ℕ, zero, suc, ◌-◌, ◌≤◌, Bool, true, false, cond, eqb, ◌⊎◌, List, [], ◌∷◌, map, length, Some, None, Option, sym, refl, ap, ◌∙◌, subst, ap₂, inl, inr, arith}
+use Rattle.std.proofs.Common.{◌≡◌, ℕ, zero, suc, ◌≤◌, Bool, true, false, cond, ◌⊎◌, List, length, Some, None, Option, sym, refl, ap, ◌∙◌, subst, inl, inr, arith}
 use mathlib.Core.Path.{fun_ext}
-use Rattle.std.proofs.lemmas.Bool.{both_ways, cases_Bool, cond_both, eqb-true}
+use Rattle.std.proofs.lemmas.Bool.{both_ways, cases_Bool, cond_both}
 use Rattle.kinds.specs.Semiring.{Semiring, Laws}
 use Rattle.kinds.proofs.Ranks.{upto_refl, upto_same, upto_other}
 use Rattle.table.specs.Circuit.{Shape, World, same, root, upward, lit, all, fork, top, bottom}
 use Rattle.table.specs.Count.{figure}
-use Rattle.table.specs.Facts.{Among, about}
 use Rattle.table.specs.Sound.{Roles, is_option, options, chances, sound, verdict}
-use Rattle.table.proofs.Listed.{some_at}
-use Rattle.table.proofs.Numbers.{option_known}
 use Rattle.passes.specs.Holding.{Entries, entry, is_free, free, selected, Keeps, Complete}
 use Rattle.passes.specs.Marks.{with_entry, held}
-use Rattle.passes.specs.Passes.{root_part, count}
+use Rattle.passes.specs.Passes.{count}
 use Rattle.passes.specs.declared.holds.Entry.{Entry}
 use Rattle.passes.specs.declared.holds.Entry.TheVariants.{On, Off}
 use Rattle.passes.proofs.Above.{covers}
 use Rattle.passes.proofs.Figures.{counts_figure}
 use Rattle.search.specs.declared.found.Found.{Found}
 use Rattle.search.specs.declared.found.Selection.{Selection}
-use Rattle.search.specs.Orders.{Lean, Order, Lawful, numbers, rising, listed}
-use Rattle.search.specs.Select.{Branching, best_figure, opened, offered, branching, explored, lean_of, named, of_table, start, select}
-use Rattle.search.specs.Best.{NoHigher, Best, Answers}
-use Rattle.search.specs.Rising.{free_rising}
+use Rattle.search.specs.Orders.{Order, Lawful}
+use Rattle.search.specs.Select.{Branching, best_figure, opened, offered, explored, of_table, start, select}
+use Rattle.search.specs.Best.{NoHigher, Best, BestOrNone}
+use Rattle.search.proofs.Naming.{Names, next_names}
 use Rattle.search.proofs.Holding.{entries_length, free_option, free_within, none_free, selected_keeps, keeps_complete, fewer_free, keeps_before, keeps_held}
 
 -- two values that differ in the first case alone
@@ -49,36 +46,10 @@ module _ {F : Type 0} (R : Semiring F) (laws : Laws R) (rs : Roles) (ss : List S
   pub one_figure : (h : Entries) → Complete rs h → (w : World) → Keeps rs h w → figure R ss (chances rs) sheet w ≡ figure R ss (chances rs) sheet (selected h)
   one_figure h complete w keeps = figure_same w (selected h) (keeps_complete rs h complete w keeps)
 
-branching_none : {A : Type 0} (n : ℕ) (leaf both : A) → n ≡ 0 → branching n leaf both ≡ leaf
-branching_none n leaf both e = ap (λ m. branching m leaf both) e
-
-branching_some : {A : Type 0} (n : ℕ) (leaf both : A) → 1 ≤ n → branching n leaf both ≡ both
-branching_some zero leaf both l = absurd (omega arith)
-branching_some (suc n) leaf both l = refl
-
--- a lawful order names one of the options that it is told of
-module _ {F : Type 0} (pick : Order F) (lawful : Lawful pick) (lean : ℕ → Lean F) (same-option : (v : ℕ) → (lean v).option ≡ v) where
-  same_numbers : (vs : List ℕ) → numbers (map lean vs) ≡ vs
-  same_numbers [] = refl
-  same_numbers (v ∷ vs) = ap₂ ◌∷◌ (same-option v) (same_numbers vs)
-
-  names_one : (vs : List ℕ) → rising vs ≡ true → (vs ≡ []) ⊎ Among (named pick (map lean vs)) vs
-  names_one [] up = inl refl
-  names_one (v ∷ vs) up =
-      let n : ℕ = pick (map lean (v ∷ vs)) in
-      let told = same_numbers (v ∷ vs) in
-      let one = some_at (eqb n) (v ∷ vs)
-      (subst (λ xs. listed n xs ≡ true) told (lawful (lean v) (map lean vs) (subst (λ xs. rising xs ≡ true) (sym told) up))) in
-      inr (subst (λ x. Among x (v ∷ vs)) (sym (eqb-true n one.0 one.2)) one.1)
-
 module _ {F : Type 0} (R : Semiring F) (laws : Laws R) (pick : Order F) (lawful : Lawful pick)
     (rs : Roles) (ss : List Shape) (sheet : List F) (accepted : verdict rs ss ≡ sound) where
   abbrev its : Branching F
   its = of_table R pick rs ss sheet
-
-  -- the option to branch on is a free one, if there is any
-  next_free : (h : Entries) → (free rs h ≡ []) ⊎ Among (its.next h) (free rs h)
-  next_free h = names_one pick lawful (lean_of (root_part R rs sheet ss h) (about ss (length ss - 1))) (λ _. refl) (free rs h) (free_rising rs h)
 
   -- a selection that keeps h, with its figure, which ranks above a floor
   record Above (h : Entries) (floor : F) (s : Selection F) : Type 0 where
@@ -144,31 +115,32 @@ module _ {F : Type 0} (R : Semiring F) (laws : Laws R) (pick : Order F) (lawful 
       ];
     }
 
+  -- what is found where a branch is not cut, by the option to branch on
+  abbrev followed : ℕ → Entries → Found F → Option ℕ → Found F
+  followed k h s o = elim o [
+    | None ↦ offered R h (its.figure_of h) (opened s)
+    | Some v ↦ explored R its k (with_entry h v Off) (explored R its k (with_entry h v On) (opened s))
+  ]
+
   -- what is opened if it is not cut, where all with one free option fewer turns out well
   turn : (k : ℕ) → ((h : Entries) (s : Found F) → length rs ≤ length h → length (free rs h) ≤ k → Outcome h s.best (explored R its k h s).best)
-      → (h : Entries) (s : Found F) → length rs ≤ length h → length (free rs h) ≤ suc k
-      → Outcome h s.best (branching (its.next h) (offered R h (its.figure_of h) (opened s))
-      (explored R its k (with_entry h (its.next h) Off) (explored R its k (with_entry h (its.next h) On) (opened s)))).best
-  turn k below h s room few = elim (next_free h) [
-    | inl none ↦ subst (λ (t : Found F). Outcome h s.best t.best)
-        (sym (branching_none (its.next h) _ _ (ap (λ vs. named pick (map (lean_of (root_part R rs sheet ss h) (about ss (length ss - 1))) vs)) none)))
-        (leaf h s (none_free rs h (rw none (omega arith))))
-    | inr m ↦ (let v : ℕ = its.next h in
-        let f = free_option rs h v m in
-        let open-to : (e : Entry) (t : Found F) → is_free e ≡ false → Outcome (with_entry h v e) t.best (explored R its k (with_entry h v e) t).best =
-        λ e t taken. below (with_entry h v e) t (rw (entries_length h v e) room) (omega (arith, fewer_free rs h room v f.0 f.1 e taken)) in
-        subst (λ (t : Found F). Outcome h s.best t.best) (sym (branching_some v _ _ (option_known rs v f.0).0))
-        (branches h room v f.0 f.1 s.best _ _ (open-to On (opened s) refl) (open-to Off _ refl)))
-  ]
+      → (h : Entries) (s : Found F) → length rs ≤ length h → length (free rs h) ≤ suc k → (o : Option ℕ) → Names R pick lawful rs h o
+      → Outcome h s.best (followed k h s o).best
+  turn k below h s room few None none = leaf h s (none_free rs h (rw none (omega arith)))
+  turn k below h s room few (Some v) m =
+      let f = free_option rs h v m in
+      let open-to : (e : Entry) (t : Found F) → is_free e ≡ false → Outcome (with_entry h v e) t.best (explored R its k (with_entry h v e) t).best =
+      λ e t taken. below (with_entry h v e) t (rw (entries_length h v e) room) (omega (arith, fewer_free rs h room v f.0 f.1 e taken)) in
+      branches h room v f.0 f.1 s.best _ _ (open-to On (opened s) refl) (open-to Off _ refl)
 
   outcome : (k : ℕ) (h : Entries) (s : Found F) → length rs ≤ length h → length (free rs h) ≤ k → Outcome h s.best (explored R its k h s).best
   unfolding explored
   outcome zero h s room few = cond_both (R.upto (its.bound_of h) (best_figure R s.best)) _ _ (λ (t : Found F). Outcome h s.best t.best)
       (cut h s.best) (λ _. leaf h s (none_free rs h few))
   outcome (suc k) h s room few = cond_both (R.upto (its.bound_of h) (best_figure R s.best)) _ _ (λ (t : Found F). Outcome h s.best t.best)
-      (cut h s.best) (λ _. turn k (outcome k) h s room few)
+      (cut h s.best) (λ _. turn k (outcome k) h s room few (its.next h) (next_names R pick lawful rs h ss sheet))
 
-  pub selects : (h : Entries) → length rs ≤ length h → Answers R rs ss sheet h (select R pick rs ss sheet h).best
+  pub selects : (h : Entries) → length rs ≤ length h → BestOrNone R rs ss sheet h (select R pick rs ss sheet h).best
   selects h room = record {
     named = λ s e. best s (subst (Outcome h None) e from_none);
     none = λ e. subst (λ s. NoHigher R rs ss sheet h (best_figure R s)) e from_none.highest;
@@ -176,7 +148,7 @@ module _ {F : Type 0} (R : Semiring F) (laws : Laws R) (pick : Order F) (lawful 
   }
     where
       from_none : Outcome h None (select R pick rs ss sheet h).best
-      from_none = outcome (length (options rs)) h (start R pick rs ss sheet) room (free_within rs h)
+      from_none = outcome (length (options rs)) h start room (free_within rs h)
 
       best : (s : Selection F) → Outcome h None (Some s) → Best R rs ss sheet h s
       best s o = elim o.either [

@@ -18,8 +18,8 @@ use Rattle.search.specs.declared.fault.Fault.{Fault}
 use Rattle.search.specs.declared.fault.Fault.TheVariants.{StrayHold, NoOption, StillFree}
 use Rattle.search.specs.Faults.{fault_number}
 use Rattle.search.specs.Orders.{Order, Lawful}
-use Rattle.search.specs.Study.{Tests, first_fit, answer_unless, change_unless, stray_hold}
-use Rattle.search.specs.Day.{Book, new, tests, First, Passes, changed, after, Says, Right, Day, over, asked, reply, Answer, answer, answers, book_after, DaysAgree, NoStrays}
+use Rattle.search.specs.Study.{Tests, first_fit, stray_hold}
+use Rattle.search.specs.Day.{Book, new, tests, First, Accepted, changed, after, Says, Right, Day, over, asked, reply, Answer, answer, answers, book_after, DaysAgree, NoStrays}
 use Rattle.search.proofs.Holding.{entry_apart, entries_length, all_held}
 use Rattle.search.proofs.Best.{one_figure, selects}
 use Rattle.search.proofs.Bounds.{bounded}
@@ -77,11 +77,11 @@ module _ {F : Type 0} (rs : Roles) (ss : List Shape) (work-size : ℕ) (b : Book
   first_judged c f g j first = elim (j.1 g first.0) [ inl same ↦ same | inr l ↦ absurd (let m = first.1 f j.0 in omega arith) ]
 
   -- what the change and its absence keep, the book keeps
-  after_keeps : (P : Entries → Type 0) (c : Call F) → P b.holds → (Passes rs ss work-size b c → P (changed b c).holds)
+  after_keeps : (P : Entries → Type 0) (c : Call F) → P b.holds → (Accepted rs ss work-size b c → P (changed b c).holds)
       → P (after rs ss work-size b c).holds
   after_keeps P c kept new = by (first_fit (tests rs ss work-size b c)) (judge c)
     where
-      by : (o : Option Fault) → Judged (tests rs ss work-size b c) o → P (change_unless o (changed b c) b).holds
+      by : (o : Option Fault) → Judged (tests rs ss work-size b c) o → P (elim o as (λ _. Book F) [ None ↦ changed b c | Some f ↦ b ]).holds
       by None j = new j
       by (Some f) j = kept
 
@@ -109,7 +109,7 @@ module _ {F : Type 0} (R : Semiring F) (pick : Order F) (rs : Roles) (ss : List 
       → (a ≡ answer R pick rs ss work-size b c) × (next ≡ after rs ss work-size b c)
   one_answer b next c a right = by (first_fit (tests rs ss work-size b c)) (judge rs ss work-size b c)
     where
-      by : (o : Option Fault) → Judged (tests rs ss work-size b c) o → (a ≡ answer_unless o (reply R pick rs ss b c)) × (next ≡ change_unless o (changed b c) b)
+      by : (o : Option Fault) → Judged (tests rs ss work-size b c) o → (a ≡ elim o [ None ↦ Ok (reply R pick rs ss b c) | Some f ↦ Err f ]) × (next ≡ elim o [ None ↦ changed b c | Some f ↦ b ])
       by None j = let says = right.accepted j in (one_reply b c a says.0, says.1)
       by (Some f) j = right.refused f (judged_first rs ss work-size b c f j)
 
@@ -127,7 +127,7 @@ module _ {F : Type 0} (R : Semiring F) (pick : Order F) (rs : Roles) (ss : List 
 module _ {F : Type 0} (R : Semiring F) (laws : Laws R) (pick : Order F) (lawful : Lawful pick)
     (rs : Roles) (ss : List Shape) (accepted : verdict rs ss ≡ sound) where
   module _ (work-size : ℕ) where
-    replies : (b : Book F) (c : Call F) → length rs ≤ length b.holds → Passes rs ss work-size b c
+    replies : (b : Book F) (c : Call F) → length rs ≤ length b.holds → Accepted rs ss work-size b c
         → Says R pick rs ss b c (Ok (reply R pick rs ss b c))
     replies b (Hold v s) room passes = refl
     replies b (Release v) room passes = refl
@@ -150,7 +150,7 @@ module _ {F : Type 0} (R : Semiring F) (laws : Laws R) (pick : Order F) (lawful 
     answers_right b c room = by (first_fit (tests rs ss work-size b c)) (judge rs ss work-size b c)
       where
         by : (o : Option Fault) → Judged (tests rs ss work-size b c) o
-            → Right R pick rs ss work-size b c (answer_unless o (reply R pick rs ss b c)) (change_unless o (changed b c) b)
+            → Right R pick rs ss work-size b c (elim o [ None ↦ Ok (reply R pick rs ss b c) | Some f ↦ Err f ]) (elim o [ None ↦ changed b c | Some f ↦ b ])
         by None j = record { refused = λ f first. absurd (j f first.0); accepted = λ passes. (replies b c room passes, refl) }
         by (Some f) j = record {
           refused = λ g first. (ap Err (first_judged rs ss work-size b c f g j first), refl);
@@ -202,7 +202,7 @@ abbrev not_for_stray : Bool × Fault → Bool
 not_for_stray t = not (eqb (fault_number t.1) 15 && t.0)
 
 module _ {F : Type 0} (R : Semiring F) (pick : Order F) (rs : Roles) (ss : List Shape) (work-size : ℕ) where
-  tidy_changed : (b : Book F) (c : Call F) → Tidy rs b.holds → Passes rs ss work-size b c → Tidy rs (changed b c).holds
+  tidy_changed : (b : Book F) (c : Call F) → Tidy rs b.holds → Accepted rs ss work-size b c → Tidy rs (changed b c).holds
   tidy_changed b (Hold v s) tidy passes = tidy_with rs b.holds v (held s) (λ e. passes (NoOption v) (inr (inl (ap (λ t. (t, NoOption v)) e)))) tidy
   tidy_changed b (Release v) tidy passes = tidy_with rs b.holds v Free (λ e. passes (NoOption v) (inr (inl (ap (λ t. (t, NoOption v)) e)))) tidy
   tidy_changed b (Weigh v x y) tidy passes = tidy
@@ -223,7 +223,7 @@ module _ {F : Type 0} (R : Semiring F) (pick : Order F) (rs : Roles) (ss : List 
   answer_stray : (b : Book F) (c : Call F) → Tidy rs b.holds → for_stray (answer R pick rs ss work-size b c) ≡ false
   answer_stray b c tidy = by (first_fit (tests rs ss work-size b c)) (judge rs ss work-size b c)
     where
-      by : (o : Option Fault) → Judged (tests rs ss work-size b c) o → for_stray (answer_unless o (reply R pick rs ss b c)) ≡ false
+      by : (o : Option Fault) → Judged (tests rs ss work-size b c) o → for_stray {F = F} (elim o [ None ↦ Ok (reply R pick rs ss b c) | Some f ↦ Err f ]) ≡ false
       by None j = refl
       by (Some f) j = let e = every_at not_for_stray (tests rs ss work-size b c) (tests_stray b c (none_stray rs b.holds tidy)) (true, f) j.0 in
           elim (cases_Bool (eqb (fault_number f) 15)) [ inl t ↦ absurd (false≢true (rw t at e)) | inr f ↦ f ]

@@ -1,17 +1,16 @@
 -- Strongest lean, one choice after the other. Assumes nothing.
 use Rattle.std.specs.List.{list_all, filter, fold, reduce, FoldsTo}
-use Rattle.std.specs.Iterator.{AfterFirst, AlwaysYields, CallableInFold, Drains, DrainsIf, FoldTurn, ReducesItems, Yields}
+use Rattle.std.specs.Iterator.{AfterFirst, AlwaysYields, CallableInFold, FoldTurn, Yields}
 use Rattle.std.specs.Fn.{Takes, Called}
 use denote.Param.Members.{Mut}
-use Rattle.std.proofs.lemmas.Iterator.{YieldsList, items_from_drains}
-use Rattle.std.proofs.lemmas.List.{map-id}
+use Rattle.std.proofs.lemmas.Iterator.{YieldsList}
 use Rattle.std.proofs.lemmas.Bool.{and_from, and_parts, cond_both}
-use Rattle.std.proofs.Common.{◌≡◌, ℕ, ◌<◌, Bool, true, false, cond, List, [], ◌∷◌, length, get_or, Some, None, Option, sym, refl, ap, ◌∙◌, subst, not-suc-le-zero}
+use Rattle.std.proofs.Common.{◌≡◌, ℕ, ◌<◌, Bool, true, false, cond, List, [], ◌∷◌, length, get_or, Some, Option, sym, refl, ap, ◌∙◌, subst, not-suc-le-zero}
 use Rattle.std.specs.Option.{unwrap_or}
 use Rattle.kinds.specs.Semiring.{Semiring}
 use Rattle.passes.specs.Holding.{filter as kept_by}
 use Rattle.search.specs.declared.choice.Choice.{Choice}
-use Rattle.search.specs.Orders.{lowest, weaker, weakest, weakest_or, strongest, lean_at, told, placed, stronger}
+use Rattle.search.specs.Orders.{lowest, weaker, strongest_of, strongest_or, strongest, lean_at, told, placed, stronger}
 
 module _ {F : Type 0} (R : Semiring F) (part : List F) where
   pub lowest_told : (cs : List Choice) → 0 < length cs → (d : Choice) → (get_or cs 0 d).option ≡ lowest (told R part cs)
@@ -26,17 +25,17 @@ module _ {F : Type 0} (R : Semiring F) (part : List F) where
       by true ms = refl
       by false ms = refl
 
-  weakest_told : (b : Choice) (cs : List Choice) → weakest R (lean_at R part b) (told R part cs) ≡ lean_at R part (fold (stronger R part) b cs)
-  weakest_told b [] = refl
-  weakest_told b (c ∷ cs) = ap (λ l. weakest R l (told R part cs)) (by (R.upto (weaker R (lean_at R part b)) (weaker R (lean_at R part c)))) ∙ weakest_told (stronger R part b c) cs
+  strongest_of_told : (b : Choice) (cs : List Choice) → strongest_of R (lean_at R part b) (told R part cs) ≡ lean_at R part (fold (stronger R part) b cs)
+  strongest_of_told b [] = refl
+  strongest_of_told b (c ∷ cs) = ap (λ l. strongest_of R l (told R part cs)) (by (R.upto (weaker R (lean_at R part b)) (weaker R (lean_at R part c)))) ∙ strongest_of_told (stronger R part b c) cs
     where
       by : (t : Bool) → cond t (lean_at R part b) (lean_at R part c) ≡ lean_at R part (cond t b c)
       by true = refl
       by false = refl
 
-  weakest_or_told : (v : ℕ) (d : Choice) → d.option ≡ v → (ms : List Choice) → (unwrap_or (reduce (stronger R part) ms) d).option ≡ weakest_or R v (told R part ms)
-  weakest_or_told v d e [] = e
-  weakest_or_told v d e (m ∷ ms) = ap (λ l. l.option) (sym (weakest_told m ms))
+  strongest_or_told : (v : ℕ) (d : Choice) → d.option ≡ v → (ms : List Choice) → (unwrap_or (reduce (stronger R part) ms) d).option ≡ strongest_or R v (told R part ms)
+  strongest_or_told v d e [] = e
+  strongest_or_told v d e (m ∷ ms) = ap (λ l. l.option) (sym (strongest_of_told m ms))
 
   stronger_placed : (size : ℕ) (b c : Choice) → placed size b ≡ true → placed size c ≡ true → placed size (stronger R part b c) ≡ true
   stronger_placed size b c p q = cond_both (R.upto (weaker R (lean_at R part b)) (weaker R (lean_at R part c))) b c (λ x. placed size x ≡ true) (λ _. p) (λ _. q)
@@ -65,27 +64,13 @@ module _ {F : Type 0} (R : Semiring F) (part : List F) where
         let next = road.runs.1 x t first in
         record { at = λ xs t' q z u c d n. callable_at ys xs t t' u (f, x) q z next.1 (and_parts _ _ h).1 refl (ap (placed size) next.0 ∙ (and_parts _ _ h).0) c d n }
 
-    fold_given : (xs : List Choice) (p q : G × Choice) → p.0 ≡ f → FoldsTo (FoldTurn g) p xs q → q.1 ≡ fold (stronger R part) p.1 xs
-    fold_given [] p q e d = sym (ap (λ r. r.1) d)
-    fold_given (z ∷ zs) p q e d =
-        let turn = gives p.1 z d.0.1 d.0.0 (subst (λ k. Called g k (p.1, (z, tt)) d.0.1 d.0.0) e d.1) in
-        fold_given zs d.0 q turn.0 d.2 ∙ ap (λ b. fold (stronger R part) b zs) turn.1
-
-    run_out : (s : S) (xs : List Choice) → Drains steps s xs → DrainsIf steps (Unit {0}) s xs
-    run_out s xs d = (d.1.0, d.1.1, λ _. (d.0, d.1.2))
-
-    pub reduce_given : {s : S} (all : List Choice) → YieldsList steps (λ c. c) s all → (r : Option Choice) → ReducesItems steps g s f r → r ≡ reduce (stronger R part) all
-    reduce_given {s} all road None d = ap (reduce (stronger R part)) (items_from_drains [] (run_out s [] d) road)
-    reduce_given {s} all road (Some y) d =
-        ap Some (fold_given d.1 (f, d.0) (d.2, y) refl d.4) ∙ ap (reduce (stronger R part)) (sym (map-id (d.0 ∷ d.1)) ∙ items_from_drains (d.0 ∷ d.1) (run_out s (d.0 ∷ d.1) d.3) road)
-
   -- the strongest of the choices that the root mentions, or else the first of all
   pub strongest_told : (cs : List Choice) → 0 < length cs → (d x : Choice) (r : Option Choice) → x ≡ unwrap_or r (get_or cs 0 d)
       → r ≡ reduce (stronger R part) (filter (λ c. c.mentioned) cs) → x.option ≡ strongest R (told R part cs)
   strongest_told cs some d x r e is =
       ap (λ c. c.option) (e ∙ ap (λ o. unwrap_or o (get_or cs 0 d)) is)
-      ∙ weakest_or_told (lowest (told R part cs)) (get_or cs 0 d) (lowest_told cs some d) (filter (λ c. c.mentioned) cs)
-      ∙ sym (ap (weakest_or R (lowest (told R part cs))) (mentioned_told cs))
+      ∙ strongest_or_told (lowest (told R part cs)) (get_or cs 0 d) (lowest_told cs some d) (filter (λ c. c.mentioned) cs)
+      ∙ sym (ap (strongest_or R (lowest (told R part cs))) (mentioned_told cs))
 
 pub filter_placed : (size : ℕ) (cs : List Choice) → list_all (placed size) cs ≡ true → list_all (placed size) (filter (λ c. c.mentioned) cs) ≡ true
 filter_placed size [] h = refl

@@ -13,7 +13,7 @@ use Rattle.passes.specs.Rows.{side_place}
 use Rattle.passes.proofs.Roots.{last_part}
 use Rattle.passes.proofs.Rowing.{work_length, side_there}
 use Rattle.search.specs.Listing.{choices, root_mentions}
-use Rattle.search.specs.Orders.{Order, told}
+use Rattle.search.specs.Orders.{told}
 use Rattle.search.specs.Select.{leans}
 use Rattle.search.proofs.Told.{told_is}
 
@@ -34,7 +34,7 @@ module _ {F : Type 0} (R : Semiring F) (rs : Roles) (ss : List Shape) (sheet : L
       ∙ drop-append-drop (length ss) before (counts R rs sheet ss w) (pair_places rs ss)
       (omega (arith, mul-add (length ss) (2 * length (options rs)) 1, mul-one (length ss))) (upward_length (count R rs sheet w) ss)
 
-module _ {F : Type 0} (R : Semiring F) (pick : Order F) (rs : Roles) (ss : List Shape) (sheet : List F) (h : Entries) (stride base : ℕ) (rest store : List F) where
+module _ {F : Type 0} (R : Semiring F) (rs : Roles) (ss : List Shape) (sheet : List F) (h : Entries) (stride base : ℕ) (rest store : List F) where
   abbrev parts : List F
   parts = work R rs sheet (pairs R rs sheet ss h)
 
@@ -47,7 +47,7 @@ module _ {F : Type 0} (R : Semiring F) (pick : Order F) (rs : Roles) (ss : List 
 
   -- the root's part tells what an order is told
   pub told_leans : stride ≡ stride_of rs → 1 ≤ length ss → base ≡ (length ss - 1) * stride → store ≡ work R rs sheet (pairs R rs sheet ss h) ++ rest
-      → told R (take (base + stride - base) (drop base store)) (choices rs ss h) ≡ leans R pick rs ss sheet h
+      → told R (take (base + stride - base) (drop base store)) (choices rs ss h) ≡ leans R rs ss sheet h
   told_leans wide some at is = told_is (root_mentions ss) h R part (root_part R rs sheet ss h) 0 (options rs) reads
     where
       reads : (i : ℕ) (b : Bool) → i < length (options rs) → get_or part (side_place (0 + i) b) R.zero ≡ (root_part R rs sheet ss h).side b (get_or (options rs) i 0)

@@ -2,6 +2,8 @@ pub mod Testing
 pub mod Bounds
 pub mod Running
 pub mod Leading
+pub mod Rising
+pub mod Ordering
 pub mod Holding
 pub mod Best
 pub mod Days

@@ -1,12 +1,12 @@
 -- How many branches are opened. Assumes nothing.
-use Rattle.std.proofs.Common.{◌≡◌, ℕ, zero, suc, ◌+◌, ◌^◌, ◌<◌, ◌≤◌, sym, refl, subst, not-suc-le-zero, arith}
+use Rattle.std.proofs.Common.{◌≡◌, ℕ, zero, suc, ◌+◌, ◌^◌, ◌<◌, ◌≤◌, Some, None, Option, sym, refl, subst, not-suc-le-zero, arith}
 use Rattle.std.proofs.lemmas.Bool.{cond_both}
 use Rattle.kinds.specs.Semiring.{Semiring}
 use Rattle.passes.specs.Holding.{Entries}
 use Rattle.passes.specs.Marks.{with_entry}
 use Rattle.passes.specs.declared.holds.Entry.TheVariants.{On, Off}
 use Rattle.search.specs.declared.found.Found.{Found}
-use Rattle.search.specs.Select.{Branching, best_figure, opened, offered, branching, explored}
+use Rattle.search.specs.Select.{Branching, best_figure, opened, offered, explored}
 
 -- how many branches k free options can open
 unfoldable pub nodes : ℕ → ℕ
@@ -25,9 +25,9 @@ pub nodes_few : (k : ℕ) → k ≤ 20 → nodes k < 2 ^ 63
 unfolding nodes
 nodes_few k l = let e : nodes k ≤ 2097151 = nodes_up k 20 l in omega arith
 
-branching_both : {A : Type 0} (v : ℕ) (leaf both : A) (P : A → Type 0) → P leaf → P both → P (branching v leaf both)
-branching_both zero leaf both P a b = a
-branching_both (suc v) leaf both P a b = b
+either_way : {A : Type 0} (o : Option ℕ) (leaf : A) (both : ℕ → A) (P : A → Type 0) → P leaf → ((v : ℕ) → P (both v)) → P (elim o [ None ↦ leaf | Some v ↦ both v ])
+either_way None leaf both P a b = a
+either_way (Some v) leaf both P a b = b v
 
 module _ {F : Type 0} (R : Semiring F) where
   offered_openings : (h : Entries) (f : F) (s : Found F) → (offered R h f s).openings ≡ s.openings
@@ -42,26 +42,28 @@ module _ {F : Type 0} (R : Semiring F) where
         (λ e. subst P (sym (offered_openings h (p.figure_of h) (opened s))) leaf)
 
     fork : (P : ℕ → Type 0) (k : ℕ) (h : Entries) (s : Found F) → P (s.openings + 1)
-        → P (explored R p k (with_entry h (p.next h) Off) (explored R p k (with_entry h (p.next h) On) (opened s))).openings
+        → ((v : ℕ) → P (explored R p k (with_entry h v Off) (explored R p k (with_entry h v On) (opened s))).openings)
         → P (explored R p (suc k) h s).openings
     unfolding explored
     fork P k h s leaf both =
         cond_both (R.upto (p.bound_of h) (best_figure R s.best)) (opened s) _ (λ x. P x.openings) (λ e. leaf)
-        (λ e. branching_both {A = Found F} (p.next h) _ _ (λ x. P x.openings) (subst P (sym (offered_openings h (p.figure_of h) (opened s))) leaf) both)
+        (λ e. either_way {A = Found F} (p.next h) _ (λ v. explored R p k (with_entry h v Off) (explored R p k (with_entry h v On) (opened s))) (λ x. P x.openings) (subst P (sym (offered_openings h (p.figure_of h) (opened s))) leaf) both)
 
     -- at least one branch is opened
     pub explored_more : (k : ℕ) (h : Entries) (s : Found F) → s.openings < (explored R p k h s).openings
     explored_more zero h s = no_fork (λ n. s.openings < n) h s (omega arith)
     explored_more (suc k) h s =
-        let on = explored_more k (with_entry h (p.next h) On) (opened s) in
-        let off = explored_more k (with_entry h (p.next h) Off) (explored R p k (with_entry h (p.next h) On) (opened s)) in
-        fork (λ n. s.openings < n) k h s (omega arith) (omega arith)
+        fork (λ n. s.openings < n) k h s (omega arith) (λ v.
+        let on = explored_more k (with_entry h v On) (opened s) in
+        let off = explored_more k (with_entry h v Off) (explored R p k (with_entry h v On) (opened s)) in
+        omega arith)
 
     -- and at most so many
     pub explored_few : (k : ℕ) (h : Entries) (s : Found F) → (explored R p k h s).openings ≤ s.openings + nodes k
     unfolding nodes
     explored_few zero h s = no_fork (λ n. n ≤ s.openings + 1) h s (omega arith)
     explored_few (suc k) h s =
-        let on = explored_few k (with_entry h (p.next h) On) (opened s) in
-        let off = explored_few k (with_entry h (p.next h) Off) (explored R p k (with_entry h (p.next h) On) (opened s)) in
-        fork (λ n. n ≤ s.openings + (nodes k + nodes k + 1)) k h s (omega arith) (omega arith)
+        fork (λ n. n ≤ s.openings + (nodes k + nodes k + 1)) k h s (omega arith) (λ v.
+        let on = explored_few k (with_entry h v On) (opened s) in
+        let off = explored_few k (with_entry h v Off) (explored R p k (with_entry h v On) (opened s)) in
+        omega arith)

@@ -1,5 +1,5 @@
 -- What a test answers, and tests of all variables at once. Assumes nothing.
-use Rattle.std.proofs.Common.{◌≡◌, ℕ, suc, ◌+◌, ◌-◌, ◌<◌, Bool, true, false, cond, ◌&&◌, ◌||◌, [], ◌∷◌, length, get_or, Some, None, Ok, Err, Result, sym, refl, ap, ◌∙◌, ap₂, add-zero, zero-add, arith}
+use Rattle.std.proofs.Common.{◌≡◌, ℕ, suc, ◌+◌, ◌-◌, ◌<◌, Bool, true, false, ◌&&◌, ◌||◌, [], ◌∷◌, length, get_or, Ok, Err, Result, sym, refl, ap, ◌∙◌, ap₂, add-zero, zero-add, arith}
 use Rattle.std.specs.List.{list_any, range_with_len, enumerate_from}
 use Rattle.table.specs.Sound.{Roles, is_option, from, options}
 use Rattle.table.proofs.Numbers.{role_at}
@@ -8,21 +8,21 @@ use Rattle.passes.specs.Marks.{entry_at}
 use Rattle.passes.specs.declared.holds.Entry.{Entry}
 use Rattle.passes.specs.declared.holds.Entry.TheVariants.{Free}
 use Rattle.search.specs.declared.fault.Fault.{Fault}
-use Rattle.search.specs.Study.{answer_unless, passed}
+use Rattle.search.specs.Study.{passed}
 use Rattle.search.proofs.Listing.{entry_read}
 
 -- a single test that refuses, and one that does not
 pub refuses : (t : Bool × Fault) (r : Result (Unit {0}) Fault) (f : Fault) → r ≡ passed t → r ≡ Err f → (t.0 ≡ true) × (t.1 ≡ f)
 refuses t r f is e = by t.0 (sym is ∙ e)
   where
-    by : (b : Bool) → answer_unless (cond b (Some t.1) None) (tt {0}) ≡ Err f → (b ≡ true) × (t.1 ≡ f)
+    by : (b : Bool) → passed (b, t.1) ≡ Err f → (b ≡ true) × (t.1 ≡ f)
     by true e = (refl, cc)
     by false e = absurd (let z : ◌≡◌ {A = ℕ} 0 1 = cc in omega arith)
 
 pub passes : (t : Bool × Fault) (r : Result (Unit {0}) Fault) → r ≡ passed t → r ≡ Ok (tt {0}) → t.0 ≡ false
 passes t r is e = by t.0 (sym is ∙ e)
   where
-    by : (b : Bool) → answer_unless (cond b (Some t.1) None) (tt {0}) ≡ Ok (tt {0}) → b ≡ false
+    by : (b : Bool) → passed (b, t.1) ≡ Ok (tt {0}) → b ≡ false
     by true e = absurd (let z : ◌≡◌ {A = ℕ} 0 1 = cc in omega arith)
     by false e = refl
 

@@ -1,6 +1,6 @@
 -- What an order is told of the free options. Assumes nothing.
 use Rattle.std.specs.List.{list_all}
-use Rattle.std.proofs.Common.{◌≡◌, ℕ, suc, ◌+◌, ◌*◌, ◌<◌, ◌≤◌, Bool, true, false, cond, List, [], ◌∷◌, map, length, get_or, refl, ap, ◌∙◌, ap₂, not-suc-le-zero, arith}
+use Rattle.std.proofs.Common.{◌≡◌, ℕ, suc, ◌+◌, ◌*◌, ◌<◌, ◌≤◌, Bool, true, false, cond, List, [], ◌∷◌, map, length, get_or, Some, refl, ap, ◌∙◌, ap₂, not-suc-le-zero, arith}
 use Rattle.std.proofs.lemmas.Bool.{and_from, lt-ltb}
 use Rattle.kinds.specs.Semiring.{Semiring}
 use Rattle.table.specs.Circuit.{Vars}
@@ -59,6 +59,6 @@ module _ (m : Vars) (h : Entries) where
       by false e = e
 
 -- an order that is told of some option is asked
-pub told_some : {F : Type 0} (pick : Order F) (R : Semiring F) (part : List F) (cs : List Choice) → 0 < length cs → pick (told R part cs) ≡ named pick (told R part cs)
+pub told_some : {F : Type 0} (pick : Order F) (R : Semiring F) (part : List F) (cs : List Choice) → 0 < length cs → Some (pick (told R part cs)) ≡ named pick (told R part cs)
 told_some pick R part [] l = absurd (not-suc-le-zero l)
 told_some pick R part (x ∷ xs) l = refl

@@ -1,5 +1,5 @@
 -- What is left to explore, from the state of the loop. Assumes nothing.
-use Rattle.std.proofs.Common.{◌≡◌, ℕ, zero, suc, ◌+◌, ◌-◌, ◌^◌, ◌<◌, ◌≤◌, Bool, true, false, cond, eqb, ◌⊎◌, List, length, get_or, set, replicate, sym, refl, ap, ◌∙◌, subst, ap₂, subst₂, inl, inr, not-suc-le-zero, add-one, arith}
+use Rattle.std.proofs.Common.{◌≡◌, ℕ, zero, suc, ◌+◌, ◌-◌, ◌^◌, ◌<◌, ◌≤◌, Bool, true, false, cond, eqb, ◌⊎◌, List, Some, None, length, get_or, set, replicate, sym, refl, ap, ◌∙◌, subst, ap₂, subst₂, inl, inr, not-suc-le-zero, add-one, arith}
 use mathlib.Core.Path.{subst₃}
 use Rattle.std.proofs.lemmas.List.{set-set, set-get_or, get_or-set_same, get_or-set_other, length-set}
 use Rattle.std.proofs.lemmas.Bool.{cond-true, cond-false, cond_both, cases_Bool}
@@ -133,19 +133,18 @@ module _ {F : Type 0} {R : Semiring F} {p : Branching F} {n : ℕ} {h₀ : Entri
     pub walk_less : (explored R p n h₀ s₀).openings - s'.openings < (explored R p n h₀ s₀).openings - s.openings
     walk_less = omega (arith, walk_left, ap (λ x. x.openings) opens, turn_openings R p (n - d) h s)
 
-    pub walk_fork : {v : ℕ} {h' : Entries} → n ≤ 20 → v ≡ (turn R p (n - d) h s).0 → 0 < v → (0 < p.next h → entry h (p.next h) ≡ Free)
+    pub walk_fork : {v : ℕ} {h' : Entries} → n ≤ 20 → Some v ≡ (turn R p (n - d) h s).0 → ((u : ℕ) → p.next h ≡ Some u → entry h u ≡ Free)
         → h' ≡ with_entry h v On → Walking R p n h₀ s₀ (set trail d (record { option = v; on = true })) (d + 1) h' s'
-    walk_fork {v} few next some law holds =
+    walk_fork {v} few next law holds =
         let b : Branch = record { option = v; on = true } in
         let k : ℕ = n - suc d in
-        let forks : Forks R p (n - d) h s = fork_step R p (n - d) h s (subst (λ x. 0 < x) next some) in
-        let is-next : v ≡ p.next h = next ∙ forks.option in
-        let is_free : entry h v ≡ Free = ap (entry h) is-next ∙ law (subst (λ x. 0 < x) is-next some) in
+        let forks : Forks R p (n - d) h s v = fork_step R p (n - d) h s v (sym next) in
+        let is_free : entry h v ≡ Free = law v forks.option in
         let deeper : d < n = omega (arith, forks.deep, walking.deep) in
         let room : d < length trail = omega (arith, walking.long) in
         let below : k ≡ forks.below = omega (arith, forks.deep) in
         let both : explored R p k (with_entry h v Off) (explored R p k (with_entry h v On) s') ≡ explored R p (n - d) h s =
-        (λ i. explored R p (below i) (with_entry h (next i) Off) (explored R p (below i) (with_entry h (next i) On) (opens i))) ∙ sym forks.both in
+        (λ i. explored R p (below i) (with_entry h v Off) (explored R p (below i) (with_entry h v On) (opens i))) ∙ sym forks.both in
         let here : Walking R p n h₀ s₀ (set trail d b) (suc d) (with_entry h v On) s' = record {
           deep = deeper;
           long = length-set trail d b ∙ walking.long;
@@ -155,7 +154,7 @@ module _ {F : Type 0} {R : Semiring F} {p : Branching F} {n : ℕ} {h₀ : Entri
         } in
         subst₂ (λ e x. Walking R p n h₀ s₀ (set trail d b) e x s') (sym (add-one d)) (sym holds) here
 
-    module _ {d' : ℕ} {trail' : List Branch} {h' : Entries} (few : n ≤ 20) (leaf : 0 ≡ (turn R p (n - d) h s).0) (de : d' ≡ (back trail d h).0) (te : trail' ≡ (back trail d h).1) (he : h' ≡ (back trail d h).2) where
+    module _ {d' : ℕ} {trail' : List Branch} {h' : Entries} (few : n ≤ 20) (leaf : None ≡ (turn R p (n - d) h s).0) (de : d' ≡ (back trail d h).0) (te : trail' ≡ (back trail d h).1) (he : h' ≡ (back trail d h).2) where
       lands : Lands R p n trail d h d' trail' h'
       lands = subst₃ (Lands R p n trail d h) (sym de) (sym te) (sym he) (back_lands R p n trail d h (omega (arith, walking.deep, walking.long)))
 

@@ -1,17 +1,17 @@
 -- The reader of a weight text line by line. Assumes nothing.
-use Rattle.std.proofs.Common.{◌≡◌, ℕ, suc, ◌+◌, ◌*◌, ◌<◌, ◌≤◌, Bool, true, false, cond, not, ◌&&◌, eqb, ltb, leb, List, [], ◌∷◌, ◌++◌, length, take, drop, replicate, Ok, Err, Option, Result, sym, refl, ap, ◌∙◌, ap₂, inl, inr, arith}
+use Rattle.std.proofs.Common.{◌≡◌, ℕ, suc, ◌+◌, ◌*◌, ◌<◌, ◌≤◌, Bool, true, false, cond, eqb, List, [], ◌∷◌, ◌++◌, length, take, drop, replicate, Ok, Err, Option, sym, refl, ap, ◌∙◌, ap₂, inl, inr, arith}
 use Rattle.std.proofs.lemmas.List.{length-set, length-drop, length-take-le, length-replicate}
-use Rattle.std.proofs.lemmas.Bool.{cases_Bool, cases_lt, cond-true, cond-false, and_parts, not_from_true, not_from_false, leb-true, ltb-true, lt-ltb, le-ltb}
+use Rattle.std.proofs.lemmas.Bool.{cases_lt, cond-true, cond-false, lt-ltb, le-ltb}
 use Rattle.text.specs.declared.fault.Reason.TheVariants as reason
-use Rattle.text.specs.Format.{Said, overwritten}
+use Rattle.text.specs.Format.{overwritten}
 use Rattle.text.specs.Lines.{lines, BeginsWithLine}
 use Rattle.text.proofs.Cuts.{index_of, first_line, no_line}
-use Rattle.table.specs.Sound.{Roles, is_option, known}
+use Rattle.table.specs.Sound.{Roles}
 use Rattle.search.specs.declared.fault.Fault.{Fault}
-use Rattle.search.specs.declared.fault.Fault.TheVariants.{ShortSheet, WeightLine}
+use Rattle.search.specs.declared.fault.Fault.TheVariants.{ShortSheet}
 use Rattle.search.specs.declared.weighing.Weighing.{Weighing}
 use Rattle.search.specs.Day.{weighed}
-use Rattle.search.specs.Weights.{Reading, read, refused, in_text, form_says, of_chance, line_says, is_closed, read_on, weights_say}
+use Rattle.search.specs.Weights.{WeightReading, read, refused, in_text, weight_line_says, is_closed, weight_lines_say, weights_say}
 
 -- what was written to the first places
 pub filled_front : {X : Type 0} (n : ℕ) (y : X) (xs new : List X) → n ≤ length xs → new ≡ replicate (length new) y → length new ≡ length (take n xs) → new ++ drop n xs ≡ overwritten (replicate n y) xs
@@ -77,58 +77,33 @@ unclosed xs e some = elim (cases_lt (index_of 10 xs) (length xs)) [
     none : lines xs ≡ take (index_of 10 xs) xs ∷ lines (drop (suc (index_of 10 xs)) xs) → ⊥
     none f = let z : ◌≡◌ {A = ℕ} 0 1 = cc in omega arith
 
--- The number on an accepted line is that of a variable.
-known_if : {F : Type 0} (line n : ℕ) (option : Bool) (v w : Weighing F) → cond (not (known n v.variable && not option)) (Err (WeightLine line)) (Ok v) ≡ Ok w → known n w.variable ≡ true
-known_if line n option v w e = elim (cases_Bool (known n v.variable && not option)) [
-  | inl h ↦ (
-      let same : v ≡ w = same_weighing v w (sym (cond-false _ _ _ (not_from_true _ h)) ∙ e) in
-      ap (λ x. known n x.variable) (sym same) ∙ (and_parts _ _ h).0)
-  | inr h ↦ never_weighing (WeightLine line) w (sym (cond-true _ _ _ (not_from_false _ h)) ∙ e)
-]
-  where
-    same_weighing : {F : Type 0} (v w : Weighing F) → ◌≡◌ {A = Result (Weighing F) Fault} (Ok v) (Ok w) → v ≡ w
-    same_weighing v w e = cc
-
-    never_weighing : {F : Type 0} {X : Type 0} (f : Fault) (w : Weighing F) → ◌≡◌ {A = Result (Weighing F) Fault} (Err f) (Ok w) → X
-    never_weighing f w e = let z : ◌≡◌ {A = ℕ} 0 1 = cc in absurd (omega arith)
-
 module _ {F : Type 0} (reading : List ℕ → Option F) (rs : Roles) where
-  chance_known : (line : ℕ) (said : Said (Weighing F)) (w : Weighing F) → of_chance rs line said ≡ Ok w → known (length rs) w.variable ≡ true
-  chance_known line (Err r) w e = let z : ◌≡◌ {A = ℕ} 0 1 = cc in absurd (omega arith)
-  chance_known line (Ok v) w e = known_if line (length rs) (is_option rs v.variable) v w e
-
-  -- so its two places are in the sheet
-  pub weighing_fits : (line : ℕ) (l : List ℕ) (w : Weighing F) → line_says reading rs line l ≡ Ok w → (0 < w.variable) × (w.variable ≤ length rs)
-  weighing_fits line l w e =
-      let p = and_parts (ltb 0 w.variable) (leb w.variable (length rs)) (chance_known line (form_says reading l) w e) in
-      (ltb-true _ _ p.0, leb-true _ _ p.1)
-
   -- One step of the reading.
   module _ (sheet : List F) (line : ℕ) where
-    read_taken : (l : List ℕ) (ls : List (List ℕ)) (closed : Bool) (w : Weighing F) → line_says reading rs line l ≡ Ok w → read_on reading rs sheet line (l ∷ ls) closed ≡ read_on reading rs (weighed sheet w.variable w.on w.off) (line + 1) ls closed
-    unfolding read_on
-    read_taken l ls closed w e = ap (λ said. elim said [ Ok x ↦ read_on reading rs (weighed sheet x.variable x.on x.off) (line + 1) ls closed | Err f ↦ refused sheet f ]) e
+    read_taken : (l : List ℕ) (ls : List (List ℕ)) (closed : Bool) (w : Weighing F) → weight_line_says reading rs line l ≡ Ok w → weight_lines_say reading rs sheet line (l ∷ ls) closed ≡ weight_lines_say reading rs (weighed sheet w.variable w.on w.off) (line + 1) ls closed
+    unfolding weight_lines_say
+    read_taken l ls closed w e = ap (λ said. elim said [ Ok x ↦ weight_lines_say reading rs (weighed sheet x.variable x.on x.off) (line + 1) ls closed | Err f ↦ refused sheet f ]) e
 
-    read_refused : (l : List ℕ) (ls : List (List ℕ)) (closed : Bool) (f : Fault) → line_says reading rs line l ≡ Err f → read_on reading rs sheet line (l ∷ ls) closed ≡ refused sheet f
-    unfolding read_on
-    read_refused l ls closed f e = ap (λ said. elim said [ Ok x ↦ read_on reading rs (weighed sheet x.variable x.on x.off) (line + 1) ls closed | Err f ↦ refused sheet f ]) e
+    read_refused : (l : List ℕ) (ls : List (List ℕ)) (closed : Bool) (f : Fault) → weight_line_says reading rs line l ≡ Err f → weight_lines_say reading rs sheet line (l ∷ ls) closed ≡ refused sheet f
+    unfolding weight_lines_say
+    read_refused l ls closed f e = ap (λ said. elim said [ Ok x ↦ weight_lines_say reading rs (weighed sheet x.variable x.on x.off) (line + 1) ls closed | Err f ↦ refused sheet f ]) e
 
-    read_over : read_on reading rs sheet line [] true ≡ read sheet
-    unfolding read_on
+    read_over : weight_lines_say reading rs sheet line [] true ≡ read sheet
+    unfolding weight_lines_say
     read_over = refl
 
-    read_missing : read_on reading rs sheet line [] false ≡ refused sheet (in_text reason.Line line)
-    unfolding read_on
+    read_missing : weight_lines_say reading rs sheet line [] false ≡ refused sheet (in_text reason.Line line)
+    unfolding weight_lines_say
     read_missing = refl
 
   -- The whole text, read into a sheet of ones.
   module _ (text : List ℕ) (ones : List F) where
-    abbrev whole : Reading F
-    whole = read_on reading rs ones 1 (lines text) (is_closed text)
+    abbrev whole : WeightReading F
+    whole = weight_lines_say reading rs ones 1 (lines text) (is_closed text)
 
     -- what is left says what the text says; a line ends in a byte
     pub record Going (sheet : List F) (line : ℕ) (rest : List ℕ) : Type 0 where
-      pub reads : read_on reading rs sheet line (lines rest) (is_closed rest) ≡ whole
+      pub reads : weight_lines_say reading rs sheet line (lines rest) (is_closed rest) ≡ whole
       pub few : line + length rest ≤ length text + 1
       pub long : length sheet ≡ length ones
 
@@ -137,26 +112,26 @@ module _ {F : Type 0} (reading : List ℕ → Option F) (rs : Roles) where
 
     module _ (sheet : List F) (line : ℕ) (rest : List ℕ) (g : Going sheet line rest) where
       pub ends : length rest ≡ 0 → whole ≡ read sheet
-      ends h = sym g.reads ∙ ap (λ xs. read_on reading rs sheet line (lines xs) (is_closed xs)) (empty rest h) ∙ read_over sheet line
+      ends h = sym g.reads ∙ ap (λ xs. weight_lines_say reading rs sheet line (lines xs) (is_closed xs)) (empty rest h) ∙ read_over sheet line
         where
           empty : (xs : List ℕ) → length xs ≡ 0 → xs ≡ []
           empty [] h = refl
           empty (x ∷ xs) h = absurd (omega arith)
 
       pub ends_missing : 0 < length rest → lines rest ≡ [] → whole ≡ refused sheet (in_text reason.Line line)
-      ends_missing some h = sym g.reads ∙ ap₂ (read_on reading rs sheet line) h (unclosed rest h some) ∙ read_missing sheet line
+      ends_missing some h = sym g.reads ∙ ap₂ (weight_lines_say reading rs sheet line) h (unclosed rest h some) ∙ read_missing sheet line
 
       module _ (l : List ℕ) (b : BeginsWithLine rest l) where
-        first : whole ≡ read_on reading rs sheet line (l ∷ lines (drop (length l + 1) rest)) (is_closed (drop (length l + 1) rest))
-        first = sym g.reads ∙ ap₂ (read_on reading rs sheet line) b.lines_are (closed_line rest l b)
+        first : whole ≡ weight_lines_say reading rs sheet line (l ∷ lines (drop (length l + 1) rest)) (is_closed (drop (length l + 1) rest))
+        first = sym g.reads ∙ ap₂ (weight_lines_say reading rs sheet line) b.lines_are (closed_line rest l b)
 
-        pub ends_refused : (f : Fault) → line_says reading rs line l ≡ Err f → whole ≡ refused sheet f
+        pub ends_refused : (f : Fault) → weight_line_says reading rs line l ≡ Err f → whole ≡ refused sheet f
         ends_refused f e = first ∙ read_refused sheet line _ _ _ f e
 
-        pub goes_on : (w : Weighing F) (next : List F) (behind : List ℕ) → line_says reading rs line l ≡ Ok w → next ≡ weighed sheet w.variable w.on w.off → behind ≡ drop (length l + 1) rest
+        pub goes_on : (w : Weighing F) (next : List F) (behind : List ℕ) → weight_line_says reading rs line l ≡ Ok w → next ≡ weighed sheet w.variable w.on w.off → behind ≡ drop (length l + 1) rest
             → Going next (line + 1) behind
         goes_on w next behind e changed left = record {
-          reads = ap₂ (λ x xs. read_on reading rs x (line + 1) (lines xs) (is_closed xs)) changed left ∙ sym (first ∙ read_taken sheet line _ _ _ w e);
+          reads = ap₂ (λ x xs. weight_lines_say reading rs x (line + 1) (lines xs) (is_closed xs)) changed left ∙ sym (first ∙ read_taken sheet line _ _ _ w e);
           few = omega (arith, g.few, b.within, ap length left, length-drop (length l + 1) rest);
           long = ap length changed ∙ length-set _ _ _ ∙ length-set _ _ _ ∙ g.long;
         }
@@ -168,7 +143,7 @@ module _ {F : Type 0} (reading : List ℕ → Option F) (rs : Roles) where
     says_short h = cond-true _ _ _ (lt-ltb (length sheet) (2 * length rs) h)
 
     -- with one at the two places of n variables
-    pub says_whole : (n : ℕ) (ones : List F) → n ≡ length rs → 2 * n ≤ length sheet → ones ≡ overwritten (replicate (2 * n) one) sheet → (told : Reading F) → whole text ones ≡ told → weights_say reading rs one sheet text ≡ told
+    pub says_whole : (n : ℕ) (ones : List F) → n ≡ length rs → 2 * n ≤ length sheet → ones ≡ overwritten (replicate (2 * n) one) sheet → (told : WeightReading F) → whole text ones ≡ told → weights_say reading rs one sheet text ≡ told
     unfolding weights_say
     says_whole n ones same h are told e =
         cond-false _ _ _ (le-ltb (length sheet) (2 * length rs) (omega (arith, same)))

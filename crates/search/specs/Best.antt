@@ -20,7 +20,7 @@ module _ {F : Type 0} (R : Semiring F) (rs : Roles) (ss : List Shape) (sheet : L
     pub highest : NoHigher h s.figure
 
   -- a selection that is named is the best; none is named exactly if no selection that keeps h has a figure above zero
-  pub record Answers (h : Entries) (best : Option (Selection F)) : Type 0 where
+  pub record BestOrNone (h : Entries) (best : Option (Selection F)) : Type 0 where
     pub named : (s : Selection F) → best ≡ Some s → Best h s
     pub none : best ≡ None → NoHigher h R.zero
     pub only : NoHigher h R.zero → best ≡ None

@@ -1,5 +1,5 @@
 -- Plant K and other small tables, worked out. Assumes nothing.
-use Rattle.std.specs.Prelude.{◌≡◌, ℕ, true, false, List, [], ◌∷◌, replicate, Some, None, Option}
+use Rattle.std.specs.Prelude.{◌≡◌, ℕ, true, false, List, [], ◌∷◌, Some, None, Option}
 use Rattle.kinds.specs.Tallies.{tally, tallies}
 use Rattle.kinds.specs.Peaks.{load, peaks}
 use Rattle.kinds.specs.declared.value.Peak.{Peak}
@@ -14,10 +14,11 @@ use Rattle.passes.specs.Holding.{Entries, selected}
 use Rattle.passes.specs.Marks.{with_entry}
 use Rattle.passes.specs.Passes.{plain_bound, bound}
 use Rattle.passes.specs.declared.holds.Entry.{Entry}
-use Rattle.passes.specs.declared.holds.Entry.TheVariants.{Free, On, Off}
+use Rattle.passes.specs.declared.holds.Entry.TheVariants.{On, Off}
 use Rattle.search.specs.declared.found.Found.{Found}
 use Rattle.search.specs.Orders.{lowest, strongest}
 use Rattle.search.specs.Select.{select}
+use Rattle.search.specs.Study.{unheld}
 
 -- variable 1 is an option, variable 2 a chance
 abbrev pub roles : Roles
@@ -42,10 +43,7 @@ weighing on off = tally 1 ∷ tally 1 ∷ tally on ∷ tally off ∷ []
 abbrev pub loading : ℕ → ℕ → List Peak
 loading on off = Load (load 0) ∷ Load (load 0) ∷ Load (load on) ∷ Load (load off) ∷ []
 
--- nothing is held, or the option alone
-abbrev pub unheld : Entries
-unheld = replicate 64 Free
-
+-- the option alone is held
 abbrev pub holding : Entry → Entries
 holding e = with_entry unheld 1 e
 

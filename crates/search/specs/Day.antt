@@ -1,5 +1,5 @@
 -- The working day: a list of calls on one new study, and the book that is kept of it. Assumes nothing.
-use Rattle.std.specs.Prelude.{◌≡◌, ℕ, ◌≤◌, true, false, List, [], ◌∷◌, length, replicate, Ok, Err, Result, slice_set}
+use Rattle.std.specs.Prelude.{◌≡◌, ℕ, ◌≤◌, true, false, List, [], ◌∷◌, length, Ok, Err, Result, slice_set}
 use Rattle.kinds.specs.Semiring.{Semiring}
 use Rattle.table.specs.Circuit.{Shape, World}
 use Rattle.table.specs.Count.{figure}
@@ -21,8 +21,8 @@ use Rattle.search.specs.declared.found.Found.{Found}
 use Rattle.search.specs.Faults.{fault_number}
 use Rattle.search.specs.Orders.{Order}
 use Rattle.search.specs.Select.{select}
-use Rattle.search.specs.Best.{NoHigher, Answers}
-use Rattle.search.specs.Study.{Tests, answered, changed_to, hold_tests, release_tests, weigh_tests, figure_tests, bound_tests, trial_tests}
+use Rattle.search.specs.Best.{NoHigher, BestOrNone}
+use Rattle.search.specs.Study.{unheld, Tests, answered, changed_to, hold_tests, release_tests, weigh_tests, figure_tests, bound_tests, trial_tests}
 
 -- what is kept of a study: an entry for each variable, and a list of figures
 pub record Book (F : Type 0) : Type 0 where
@@ -31,7 +31,7 @@ pub record Book (F : Type 0) : Type 0 where
 
 -- nothing is held at first, and the figures are the sheet's
 abbrev pub new : {F : Type 0} → List F → Book F
-new sheet = record { holds = replicate 64 Free; sheet = sheet }
+new sheet = record { holds = unheld; sheet = sheet }
 
 -- the book of a study as it stands
 abbrev pub book_of : {F : Type 0} → Holds → List F → Book F
@@ -67,6 +67,7 @@ module _ {F : Type 0} (rs : Roles) (ss : List Shape) (work-size : ℕ) where
   tests b Bound = bound_tests rs ss (length b.sheet) work-size b.holds
   tests b Select = bound_tests rs ss (length b.sheet) work-size b.holds
 
+  -- the refusal f is among those that c can meet, and fits
   abbrev pub Fits : Book F → Call F → Fault → Type 0
   Fits b c f = Among (true, f) (tests b c)
 
@@ -74,8 +75,9 @@ module _ {F : Type 0} (rs : Roles) (ss : List Shape) (work-size : ℕ) where
   abbrev pub First : Book F → Call F → Fault → Type 0
   First b c f = Fits b c f × ((g : Fault) → Fits b c g → fault_number f ≤ fault_number g)
 
-  abbrev pub Passes : Book F → Call F → Type 0
-  Passes b c = (f : Fault) → Fits b c f → ⊥
+  -- no refusal fits
+  abbrev pub Accepted : Book F → Call F → Type 0
+  Accepted b c = (f : Fault) → Fits b c f → ⊥
 
   -- the book after a call, worked out
   abbrev pub after : Book F → Call F → Book F
@@ -97,7 +99,7 @@ module _ {F : Type 0} (R : Semiring F) (pick : Order F) (rs : Roles) (ss : List 
   -- select's answer, openings included, and what it means
   pub record FoundBest (b : Book F) (found : Found F) : Type 0 where
     pub is_select : found ≡ select R pick rs ss b.sheet b.holds
-    pub best : Answers R rs ss b.sheet b.holds found.best
+    pub best : BestOrNone R rs ss b.sheet b.holds found.best
 
   -- what an accepted call is answered
   abbrev pub Says : Book F → Call F → Answer F → Type 0
@@ -124,7 +126,7 @@ module _ {F : Type 0} (R : Semiring F) (pick : Order F) (rs : Roles) (ss : List 
   -- changes
   pub record Right (b : Book F) (c : Call F) (a : Answer F) (next : Book F) : Type 0 where
     pub refused : (f : Fault) → First rs ss work-size b c f → (a ≡ Err f) × (next ≡ b)
-    pub accepted : Passes rs ss work-size b c → Says R pick rs ss b c a × (next ≡ changed b c)
+    pub accepted : Accepted rs ss work-size b c → Says R pick rs ss b c a × (next ≡ changed b c)
 
   -- a day: the book that it begins with, the calls, their answers, the book that it ends with
   pub data Day : Book F → List (Call F) → List (Answer F) → Book F → Type 0 where

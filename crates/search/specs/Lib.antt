@@ -1,5 +1,6 @@
 pub mod Faults
 pub mod Orders
+pub mod Lawful
 pub mod Select
 pub mod Best
 pub mod Study
@@ -9,5 +10,3 @@ pub mod Cases
 pub mod Listing
 pub mod Walk
 pub mod Weights
-pub mod OrdersLemmas
-pub mod Rising

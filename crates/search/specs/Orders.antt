@@ -1,6 +1,6 @@
 -- Branching orders: which free option to branch on next. Assumes nothing.
-use Rattle.std.specs.Prelude.{◌≡◌, ℕ, ◌+◌, ◌≤◌, Bool, true, false, cond, ◌&&◌, ltb, List, [], ◌∷◌, map, nat_eq, nat_lt, slice_index_or}
-use Rattle.std.specs.List.{list_all, list_any}
+use Rattle.std.specs.Prelude.{◌≡◌, ℕ, ◌+◌, ◌≤◌, Bool, true, false, cond, ◌&&◌, ltb, List, [], ◌∷◌, map, nat_lt, slice_index_or}
+use Rattle.std.specs.List.{list_all}
 use Rattle.kinds.specs.Semiring.{Semiring, lesser}
 use Rattle.table.specs.Facts.{Among}
 use Rattle.passes.specs.Holding.{filter}
@@ -13,6 +13,7 @@ pub record Lean (F : Type 0) : Type 0 where
   pub on : F
   pub off : F
 
+-- the numbers of the options that it is told of
 abbrev pub numbers : {F : Type 0} → List (Lean F) → List ℕ
 numbers ls = map (λ l. l.option) ls
 
@@ -21,16 +22,13 @@ abbrev pub rising : List ℕ → Bool
 rising [] = true
 rising (x ∷ xs) = list_all (ltb x) xs && rising xs
 
-abbrev pub listed : ℕ → List ℕ → Bool
-listed v xs = list_any (nat_eq v) xs
-
 -- an order is told of the free options by rising number, and names an option
 abbrev pub Order : Type 0 → Type 0
 Order F = List (Lean F) → ℕ
 
 -- a lawful order names one of the options that it is told of, if it is told of any
 abbrev pub Lawful : {F : Type 0} → Order F → Type 0
-Lawful {F} pick = (l : Lean F) (ls : List (Lean F)) → rising (numbers (l ∷ ls)) ≡ true → listed (pick (l ∷ ls)) (numbers (l ∷ ls)) ≡ true
+Lawful {F} pick = (l : Lean F) (ls : List (Lean F)) → rising (numbers (l ∷ ls)) ≡ true → Among (pick (l ∷ ls)) (numbers (l ∷ ls))
 
 -- number order: the first
 abbrev pub lowest : {F : Type 0} → Order F
@@ -49,18 +47,19 @@ module _ {F : Type 0} (R : Semiring F) where
   weaker l = lesser R l.on l.off
 
   -- the first of those whose weaker value ranks lowest
-  abbrev pub weakest : Lean F → List (Lean F) → Lean F
-  weakest l [] = l
-  weakest l (x ∷ xs) = weakest (cond (R.upto (weaker l) (weaker x)) l x) xs
+  abbrev pub strongest_of : Lean F → List (Lean F) → Lean F
+  strongest_of l [] = l
+  strongest_of l (x ∷ xs) = strongest_of (cond (R.upto (weaker l) (weaker x)) l x) xs
 
-  abbrev pub weakest_or : ℕ → List (Lean F) → ℕ
-  weakest_or v [] = v
-  weakest_or v (l ∷ ls) = (weakest l ls).option
+  -- its option, or v if there is none to choose from
+  abbrev pub strongest_or : ℕ → List (Lean F) → ℕ
+  strongest_or v [] = v
+  strongest_or v (l ∷ ls) = (strongest_of l ls).option
 
   -- strongest lean: of the options that the root mentions the first whose weaker value ranks lowest; the first of all if
   -- it mentions none
   abbrev pub strongest : Order F
-  strongest ls = weakest_or (lowest ls) (filter (λ l. l.mentioned) ls)
+  strongest ls = strongest_or (lowest ls) (filter (λ l. l.mentioned) ls)
 
   -- l is the strongest lean among ls: none that is mentioned ranks below it, and those that rank alike have no lower number
   pub record Strongest (l : Lean F) (ls : List (Lean F)) : Type 0 where
@@ -87,6 +86,7 @@ lean_at R part c = record {
 abbrev pub told : {F : Type 0} → Semiring F → List F → List Choice → List (Lean F)
 told R part cs = map (lean_at R part) cs
 
+-- the numbers of the choices
 abbrev pub options_of : List Choice → List ℕ
 options_of cs = map (λ c. c.option) cs
 

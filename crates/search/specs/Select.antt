@@ -1,9 +1,8 @@
 -- Select: the best selection by branch and bound. Assumes nothing.
-use Rattle.std.specs.Prelude.{ℕ, zero, suc, ◌+◌, ◌-◌, true, false, cond, List, [], ◌∷◌, map, length, Some, None, Option}
+use Rattle.std.specs.Prelude.{ℕ, zero, suc, ◌+◌, true, false, cond, List, [], ◌∷◌, map, length, Some, None, Option}
 use Rattle.kinds.specs.Semiring.{Semiring}
 use Rattle.table.specs.Circuit.{Shape, Vars}
 use Rattle.table.specs.Count.{figure}
-use Rattle.table.specs.Facts.{about}
 use Rattle.table.specs.Sound.{Roles, options, chances}
 use Rattle.passes.specs.Holding.{Entries, free, selected}
 use Rattle.passes.specs.Marks.{with_entry}
@@ -11,14 +10,15 @@ use Rattle.passes.specs.Passes.{Part, root_part, bound}
 use Rattle.passes.specs.declared.holds.Entry.TheVariants.{On, Off}
 use Rattle.search.specs.declared.found.Found.{Found}
 use Rattle.search.specs.declared.found.Selection.{Selection}
+use Rattle.search.specs.Listing.{root_mentions}
 use Rattle.search.specs.Orders.{Lean, Order}
 
--- what branch and bound asks of holds: their bound, the figure of the selection held, and the option to branch on, or 0
--- if no option is free
+-- what branch and bound asks of holds: their bound, the figure of the selection held, and the option to branch on, if
+-- one is free
 pub record Branching (F : Type 0) : Type 0 where
   pub bound_of : Entries → F
   pub figure_of : Entries → F
-  pub next : Entries → ℕ
+  pub next : Entries → Option ℕ
 
 -- the figure that a branch has to beat
 abbrev pub best_figure : {F : Type 0} → Semiring F → Option (Selection F) → F
@@ -35,11 +35,6 @@ offered R h f s =
     cond (R.upto f (best_figure R s.best)) s
     (record { best = Some (record { holds = record { entries = h }; figure = f }); openings = s.openings })
 
--- the first if there is no option to branch on, else the second
-abbrev pub branching : {A : Type 0} → ℕ → A → A → A
-branching zero leaf both = leaf
-branching (suc v) leaf both = both
-
 -- opens the holds h, and all that follows: cut, or a selection counted, or an option opened on and then off; at most k
 -- options are free
 unfoldable pub explored : {F : Type 0} → Semiring F → Branching F → ℕ → Entries → Found F → Found F
@@ -47,32 +42,37 @@ explored R p zero h s =
     cond (R.upto (p.bound_of h) (best_figure R s.best)) (opened s) (offered R h (p.figure_of h) (opened s))
 explored R p (suc k) h s =
     cond (R.upto (p.bound_of h) (best_figure R s.best)) (opened s)
-    (branching (p.next h) (offered R h (p.figure_of h) (opened s))
-    (explored R p k (with_entry h (p.next h) Off) (explored R p k (with_entry h (p.next h) On) (opened s))))
+    (elim (p.next h) [
+      | None ↦ offered R h (p.figure_of h) (opened s)
+      | Some v ↦ explored R p k (with_entry h v Off) (explored R p k (with_entry h v On) (opened s))
+    ])
 
 -- what an order is told of an option: the root's mention of it, and its values
 abbrev pub lean_of : {F : Type 0} → Part F → Vars → ℕ → Lean F
 lean_of p mentioned v = record { option = v; mentioned = mentioned v; on = p.side true v; off = p.side false v }
 
--- the option that the order names of the free ones, or 0 if there is none
-abbrev pub named : {F : Type 0} → Order F → List (Lean F) → ℕ
-named pick [] = 0
-named pick (l ∷ ls) = pick (l ∷ ls)
+-- the option that the order names of the free ones, if there is one
+abbrev pub named : {F : Type 0} → Order F → List (Lean F) → Option ℕ
+named pick [] = None
+named pick (l ∷ ls) = Some (pick (l ∷ ls))
+
+-- what an order is told under holds: the free options, by rising number
+abbrev pub leans : {F : Type 0} → Semiring F → Roles → List Shape → List F → Entries → List (Lean F)
+leans R rs ss sheet h = map (lean_of (root_part R rs sheet ss h) (root_mentions ss)) (free rs h)
+
+-- at first there is no best selection
+abbrev pub start : {F : Type 0} → Found F
+start = record { best = None; openings = 0 }
 
 module _ {F : Type 0} (R : Semiring F) (pick : Order F) (rs : Roles) (ss : List Shape) (sheet : List F) where
-  abbrev pub leans : Entries → List (Lean F)
-  leans h = map (lean_of (root_part R rs sheet ss h) (about ss (length ss - 1))) (free rs h)
-
+  -- what branch and bound asks, for a table, a sheet and an order
   abbrev pub of_table : Branching F
   of_table = record {
     bound_of = λ h. bound R rs sheet ss h;
     figure_of = λ h. figure R ss (chances rs) sheet (selected h);
-    next = λ h. named pick (leans h);
+    next = λ h. named pick (leans R rs ss sheet h);
   }
 
-  -- at first there is no best selection
-  abbrev pub start : Found F
-  start = record { best = None; openings = 0 }
-
+  -- the best selection that keeps the holds, or none, and how many branches were opened
   abbrev pub select : Entries → Found F
   select h = explored R of_table (length (options rs)) h start

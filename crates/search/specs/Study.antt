@@ -1,13 +1,18 @@
 -- The calls of a study: which refusals can meet them, and what follows. Assumes nothing.
-use Rattle.std.specs.Prelude.{ℕ, ◌*◌, Bool, cond, not, ◌&&◌, List, [], ◌∷◌, length, Some, None, Ok, Err, Option, Result, nat_lt}
+use Rattle.std.specs.Prelude.{ℕ, ◌*◌, Bool, cond, not, ◌&&◌, List, [], ◌∷◌, length, replicate, Some, None, Option, Ok, Err, Result, nat_lt}
 use Rattle.std.specs.List.{list_any, range_with_len}
 use Rattle.table.specs.Circuit.{Shape}
 use Rattle.table.specs.Sound.{Roles, is_option, options, known}
 use Rattle.passes.specs.Holding.{Entries, entry, is_free}
 use Rattle.passes.specs.Marks.{entry_at}
+use Rattle.passes.specs.declared.holds.Entry.TheVariants.{Free}
 use Rattle.passes.specs.Places.{pair_places}
 use Rattle.search.specs.declared.fault.Fault.{Fault}
 use Rattle.search.specs.declared.fault.Fault.TheVariants.{ShortSheet, StrayHold, NoOption, NoChance, Held, NotHeld, StillFree, ShortWork}
+
+-- nothing is held
+abbrev pub unheld : Entries
+unheld = replicate 64 Free
 
 -- refusals, each with whether it fits
 abbrev pub Tests : Type 0
@@ -18,25 +23,19 @@ abbrev pub first_fit : Tests → Option Fault
 first_fit [] = None
 first_fit (t ∷ ts) = cond t.0 (Some t.1) (first_fit ts)
 
-abbrev pub answer_unless : {A : Type 0} → Option Fault → A → Result A Fault
-answer_unless None a = Ok a
-answer_unless (Some f) a = Err f
-
-abbrev pub change_unless : {A : Type 0} → Option Fault → A → A → A
-change_unless None new old = new
-change_unless (Some f) new old = old
-
 -- the answer, or the first refusal that fits
 abbrev pub answered : {A : Type 0} → Tests → A → Result A Fault
-answered ts a = answer_unless (first_fit ts) a
-
--- a single refusal, as the test for it answers
-abbrev pub passed : Bool × Fault → Result (Unit {0}) Fault
-passed t = answered (t ∷ []) tt
+answered ts a = elim (first_fit ts) [ None ↦ Ok a | Some f ↦ Err f ]
 
 -- what is new, or what was before if a refusal fits
 abbrev pub changed_to : {A : Type 0} → Tests → A → A → A
-changed_to ts new old = change_unless (first_fit ts) new old
+changed_to ts new old = elim (first_fit ts) [ None ↦ new | Some f ↦ old ]
+
+-- what a single test answers
+abbrev pub passed : Bool × Fault → Result (Unit {0}) Fault
+passed t = answered (t ∷ []) tt
+
+-- The tests, one for each refusal.
 
 module _ (rs : Roles) where
   -- a sheet of so many figures has not two for each variable
@@ -47,18 +46,23 @@ module _ (rs : Roles) where
   abbrev pub stray_hold : Entries → Bool × Fault
   stray_hold h = (list_any (λ v. not (is_option rs v) && not (is_free (entry h v))) (range_with_len 1 (length h)), StrayHold)
 
+  -- the number given is not that of an option
   abbrev pub no_option : ℕ → Bool × Fault
   no_option v = (not (is_option rs v), NoOption v)
 
+  -- the number given is not that of a chance
   abbrev pub no_chance : ℕ → Bool × Fault
   no_chance v = (not (known (length rs) v && not (is_option rs v)), NoChance v)
 
+  -- an option is free
   abbrev pub still_free : Entries → Bool × Fault
   still_free h = (list_any (λ v. is_free (entry h v)) (options rs), StillFree)
 
+-- the option given is held
 abbrev pub held_already : Entries → ℕ → Bool × Fault
 held_already h v = (not (is_free (entry_at h v)), Held v)
 
+-- the option given is free
 abbrev pub not_held : Entries → ℕ → Bool × Fault
 not_held h v = (is_free (entry_at h v), NotHeld v)
 

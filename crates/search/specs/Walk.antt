@@ -1,28 +1,26 @@
 -- The loop of branch and bound: a branch is opened, a trail leads to it, and the loop goes back along it. Assumes nothing.
-use Rattle.std.specs.Prelude.{ℕ, zero, suc, false, cond, List, Some, None, Option, get_or, slice_index_or, slice_set}
+use Rattle.std.specs.Prelude.{ℕ, zero, suc, false, cond, List, Some, None, Option, get_or, slice_set}
 use Rattle.kinds.specs.Semiring.{Semiring}
 use Rattle.passes.specs.Holding.{Entries}
 use Rattle.passes.specs.Marks.{with_entry}
 use Rattle.passes.specs.declared.holds.Entry.TheVariants.{Free, Off}
 use Rattle.search.specs.declared.found.Found.{Found}
 use Rattle.search.specs.declared.trail.Branch.{Branch}
-use Rattle.search.specs.Select.{Branching, best_figure, opened, offered, branching}
+use Rattle.search.specs.Select.{Branching, best_figure, opened, offered}
 
 -- the option to branch on, where at most k options are free
-abbrev pub gate : ℕ → ℕ → ℕ
-gate zero v = 0
-gate (suc k) v = v
+abbrev pub next_at : ℕ → Option ℕ → Option ℕ
+next_at zero o = None
+next_at (suc k) o = o
 
--- the option of a number, of which 0 is none
-abbrev pub as_option : ℕ → Option ℕ
-as_option zero = None
-as_option (suc v) = Some (suc v)
-
--- one branch opened: the option to branch on, or 0 if nothing follows, and what is found
-unfoldable pub turn : {F : Type 0} → Semiring F → Branching F → ℕ → Entries → Found F → ℕ × Found F
+-- one branch opened, where at most k options are free: the option to branch on, if anything follows, and what is found
+unfoldable pub turn : {F : Type 0} → Semiring F → Branching F → ℕ → Entries → Found F → Option ℕ × Found F
 turn R p k h s =
-    cond (R.upto (p.bound_of h) (best_figure R s.best)) (0, opened s)
-    (branching (gate k (p.next h)) (0, offered R h (p.figure_of h) (opened s)) (gate k (p.next h), opened s))
+    cond (R.upto (p.bound_of h) (best_figure R s.best)) (None, opened s)
+    (elim (next_at k (p.next h)) [
+      | None ↦ (None, offered R h (p.figure_of h) (opened s))
+      | Some v ↦ (Some v, opened s)
+    ])
 
 -- what stands in a trail where there is no branch
 abbrev pub no_branch : Branch
@@ -38,5 +36,5 @@ unfoldable pub back : List Branch → ℕ → Entries → ℕ × List Branch × 
 back trail zero h = (0, trail, h)
 back trail (suc d) h =
     cond (get_or trail d no_branch).on
-    (suc d, slice_set trail d (off_side (slice_index_or trail d no_branch)), with_entry h (get_or trail d no_branch).option Off)
+    (suc d, slice_set trail d (off_side (get_or trail d no_branch)), with_entry h (get_or trail d no_branch).option Off)
     (back trail d (with_entry h (get_or trail d no_branch).option Free))

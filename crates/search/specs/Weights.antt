@@ -1,8 +1,9 @@
 -- What a weight text says, or the first refusal that fits. Assumes nothing.
 --
 -- A text is a list of lines, a line a list of fields: the letter W, a chance's number, its on weight, its off weight.
-use Rattle.std.specs.Prelude.{ℕ, ◌+◌, ◌*◌, Bool, true, cond, ◌&&◌, List, [], ◌∷◌, length, replicate, Some, None, Ok, Err, Option, Result, ◌==◌, slice_index_or}
+use Rattle.std.specs.Prelude.{ℕ, ◌+◌, ◌*◌, Bool, true, cond, ◌&&◌, List, [], ◌∷◌, length, replicate, Ok, Err, Option, Result, ◌==◌, slice_index_or}
 use Rattle.std.specs.List.{list_all}
+use Rattle.std.specs.Option.{ok_or}
 use Rattle.std.specs.Str.{bytes_eq}
 use Rattle.text.specs.declared.fault.Fault.TheVariants as text_fault
 use Rattle.text.specs.declared.fault.Reason.{Reason}
@@ -32,11 +33,6 @@ abbrev pub in_text : Reason → ℕ → Fault
 in_text r line = Table (table_fault.Text (text_fault.Line r line))
 
 module _ {F : Type 0} where
-  -- a weight, if it has the form
-  abbrev pub said_weight : Option F → Said F
-  said_weight None = Err reason.Number
-  said_weight (Some x) = Ok x
-
   -- the number and the two weights, by what their fields say
   abbrev pub together : Said ℕ → Said F → Said F → Said (Weighing F)
   together v a b = then v (λ n. then a (λ x. then b (λ y. Ok (record { variable = n; on = x; off = y }))))
@@ -48,8 +44,9 @@ module _ {F : Type 0} where
 
   -- a kind's weights are read by `reading`
   module _ (reading : List ℕ → Option F) where
+    -- a weight, if it has the form
     abbrev pub weight_field : List ℕ → Said F
-    weight_field f = said_weight (reading f)
+    weight_field f = ok_or (reading f) reason.Number
 
     -- what a line says by its form
     abbrev pub form_says : List ℕ → Said (Weighing F)
@@ -57,9 +54,9 @@ module _ {F : Type 0} where
         provided (is_weight_line l) reason.Line
         (together (number_field (field_at 1 l)) (weight_field (field_at 2 l)) (weight_field (field_at 3 l)))
 
-    -- what the line of a number, counted from 1, says of a table
-    abbrev pub line_says : Roles → ℕ → List ℕ → Result (Weighing F) Fault
-    line_says rs line l = of_chance rs line (form_says l)
+    -- what the line of this number, counted from 1, says of a table
+    abbrev pub weight_line_says : Roles → ℕ → List ℕ → Result (Weighing F) Fault
+    weight_line_says rs line l = of_chance rs line (form_says l)
 
 -- The whole text.
 
@@ -70,14 +67,15 @@ is_closed (b ∷ []) = b == 10
 is_closed (b ∷ c ∷ bs) = is_closed (c ∷ bs)
 
 -- what a text leaves in the sheet, and the answer
-pub record Reading (F : Type 0) : Type 0 where
+pub record WeightReading (F : Type 0) : Type 0 where
   pub sheet : List F
   pub answer : Result (Unit {0}) Fault
 
-abbrev pub read : {F : Type 0} → List F → Reading F
+-- a text that is accepted, and one that is refused
+abbrev pub read : {F : Type 0} → List F → WeightReading F
 read sheet = record { sheet = sheet; answer = Ok tt }
 
-abbrev pub refused : {F : Type 0} → List F → Fault → Reading F
+abbrev pub refused : {F : Type 0} → List F → Fault → WeightReading F
 refused sheet f = record { sheet = sheet; answer = Err f }
 
 -- a sheet with one at the two places of each of n variables
@@ -86,16 +84,16 @@ with_ones one n sheet = overwritten (replicate (2 * n) one) sheet
 
 module _ {F : Type 0} (reading : List ℕ → Option F) (rs : Roles) where
   -- from the line of this number on: each line writes its two weights, and the first refusal ends the reading
-  unfoldable pub read_on : List F → (line : ℕ) → List (List ℕ) → (closed : Bool) → Reading F
-  read_on sheet line [] closed = cond closed (read sheet) (refused sheet (in_text reason.Line line))
-  read_on sheet line (l ∷ ls) closed =
-      elim (line_says reading rs line l) [
-        | Ok w ↦ read_on (weighed sheet w.variable w.on w.off) (line + 1) ls closed
+  unfoldable pub weight_lines_say : List F → (line : ℕ) → List (List ℕ) → (closed : Bool) → WeightReading F
+  weight_lines_say sheet line [] closed = cond closed (read sheet) (refused sheet (in_text reason.Line line))
+  weight_lines_say sheet line (l ∷ ls) closed =
+      elim (weight_line_says reading rs line l) [
+        | Ok w ↦ weight_lines_say (weighed sheet w.variable w.on w.off) (line + 1) ls closed
         | Err f ↦ refused sheet f
       ]
 
   -- a sheet that is long enough is filled with ones first
-  unfoldable pub weights_say : (one : F) → List F → List ℕ → Reading F
+  unfoldable pub weights_say : (one : F) → List F → List ℕ → WeightReading F
   weights_say one sheet bytes =
       cond (short_sheet rs (length sheet)).0 (refused sheet ShortSheet)
-      (read_on (with_ones one (length rs) sheet) 1 (lines bytes) (is_closed bytes))
+      (weight_lines_say (with_ones one (length rs) sheet) 1 (lines bytes) (is_closed bytes))

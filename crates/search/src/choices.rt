@@ -5,7 +5,7 @@ ghost use Rattle.passes.specs.Places.{stride};
 ghost use Rattle.search.specs.Listing.{choices_from, root_mentions, choices as choices_of};
 ghost use Rattle.search.specs.Orders.{told};
 ghost use Rattle.search.specs.Select.{named};
-ghost use Rattle.search.specs.Walk.{as_option, gate};
+ghost use Rattle.search.specs.Walk.{next_at};
 
 use crate::choice::Choice;
 use crate::order::BranchingOrder;
@@ -63,7 +63,7 @@ impl<K: Figure, O: BranchingOrder<K>> Plan<'_, K, O> {
     /// free. `part` is the root's part of the work table.
     pub(crate) fn next_option(&self, holds: &Holds, levels: usize, part: &[K]) -> Option<u16>
         requires { length part.now ≡ stride (roles self.now.table.now) }
-        ensures { result ≡ as_option (gate levels (named (O.picks self.now.order.now) (told K.ring part.now (choices_of (roles self.now.table.now) (circuit self.now.table.now) holds.now.entries)))) }
+        ensures { result ≡ next_at levels (named (O.picks self.now.order.now) (told K.ring part.now (choices_of (roles self.now.table.now) (circuit self.now.table.now) holds.now.entries))) }
     {
         if levels == 0 {
             return None;

@@ -3,7 +3,7 @@ ghost use Rattle.std.specs.Prelude.{◌≡◌, ◌^◌, ◌<◌, ◌≤◌, leng
 ghost use Rattle.table.specs.Whole.{circuit, roles};
 ghost use Rattle.search.specs.Calls.{places, BehindKept};
 ghost use Rattle.search.specs.Select.{best_figure, offered, of_table, select};
-ghost use Rattle.search.specs.Walk.{as_option, turn, back};
+ghost use Rattle.search.specs.Walk.{turn, back};
 
 use crate::found::{Found, Selection};
 use crate::order::BranchingOrder;
@@ -70,7 +70,7 @@ impl<K: Figure, O: BranchingOrder<K>> Plan<'_, K, O> {
     ) -> Option<u16>
         requires room { places self.now.table.now ≤ length work.old }
         requires few { found.old.openings < 2 ^ 63 }
-        ensures option { result ≡ as_option (turn K.ring (of_table K.ring (O.picks self.now.order.now) (roles self.now.table.now) (circuit self.now.table.now) self.now.sheet.now) levels holds.now.entries found.old).0 }
+        ensures option { result ≡ (turn K.ring (of_table K.ring (O.picks self.now.order.now) (roles self.now.table.now) (circuit self.now.table.now) self.now.sheet.now) levels holds.now.entries found.old).0 }
         ensures found { found.new ≡ (turn K.ring (of_table K.ring (O.picks self.now.order.now) (roles self.now.table.now) (circuit self.now.table.now) self.now.sheet.now) levels holds.now.entries found.old).1 }
         ensures work { BehindKept self.now.table.now work.old work.new }
     {

@@ -1,6 +1,6 @@
 //! Number order: branch on the free option with the lowest number.
 ghost use Rattle.search.specs.Orders.{LowestAnswers, lowest};
-ghost use Rattle.search.specs.OrdersLemmas.{lawful_lowest};
+ghost use Rattle.search.specs.Lawful.{lawful_lowest};
 
 use crate::choice::Choice;
 use crate::order::BranchingOrder;

@@ -1,7 +1,7 @@
 //! Strongest lean: branch on the free option whose weaker value at the root ranks lowest.
 ghost use Rattle.std.specs.Prelude.{◌≡◌, true, length};
 ghost use Rattle.search.specs.Orders.{StrongestAnswers, strongest, weaker as weaker_of, stronger as stronger_of, lean_at, placed};
-ghost use Rattle.search.specs.OrdersLemmas.{lawful_strongest};
+ghost use Rattle.search.specs.Lawful.{lawful_strongest};
 
 use crate::choice::Choice;
 use crate::order::BranchingOrder;

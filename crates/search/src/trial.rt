@@ -4,9 +4,9 @@ ghost use Rattle.std.specs.Prelude.{◌≡◌, ◌*◌, ◌<◌, ◌≤◌, fals
 ghost use Rattle.table.specs.Whole.{circuit, roles};
 ghost use Rattle.passes.specs.Marks.{with_entry, held};
 ghost use Rattle.passes.specs.Passes.{bound as bound_of};
-ghost use Rattle.search.specs.Calls.{entries_with, trial_refusals, bound_under, places, BehindKept};
+ghost use Rattle.search.specs.Calls.{places, BehindKept};
 ghost use Rattle.search.specs.Day.{Bounded};
-ghost use Rattle.search.specs.Study.{answered};
+ghost use Rattle.search.specs.Study.{answered, trial_tests};
 
 use crate::fault::Fault;
 use crate::guard::Trial;
@@ -63,8 +63,8 @@ pub fn trial<K: Figure>(
     variable: u16,
     on: bool,
 ) -> Result<K, Fault>
-    ensures answer { result ≡ answered (trial_refusals table.now holds.old sheet.now work.old variable) (bound_under table.now holds.old sheet.now K.ring (entries_with holds.old variable (held on))) }
-    ensures bounded { Bounded K.ring (roles table.now) (circuit table.now) (entries_with holds.old variable (held on)) sheet.now.figures.now (bound_under table.now holds.old sheet.now K.ring (entries_with holds.old variable (held on))) }
+    ensures answer { result ≡ answered (trial_tests (roles table.now) (circuit table.now) (length sheet.now.figures.now) (length work.old) holds.old.entries variable) (bound_of K.ring (roles table.now) sheet.now.figures.now (circuit table.now) (with_entry holds.old.entries variable (held on))) }
+    ensures bounded { Bounded K.ring (roles table.now) (circuit table.now) (with_entry holds.old.entries variable (held on)) sheet.now.figures.now (bound_of K.ring (roles table.now) sheet.now.figures.now (circuit table.now) (with_entry holds.old.entries variable (held on))) }
     ensures holds { holds.new.entries ≡ holds.old.entries }
     ensures behind { BehindKept table.now work.old work.new }
     ensures refused { is_ok result ≡ false → work.new ≡ work.old }

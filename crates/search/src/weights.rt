@@ -3,7 +3,7 @@ ghost use Rattle.std.specs.Prelude.{◌≡◌, ◌<◌, ◌≤◌, length, repli
 ghost use Rattle.text.specs.Format.{overwritten};
 ghost use Rattle.text.specs.Lines.{fields};
 ghost use Rattle.table.specs.Whole.{roles};
-ghost use Rattle.search.specs.Weights.{field_at, is_weight_line, weight_field, form_says, line_says, weights_say};
+ghost use Rattle.search.specs.Weights.{field_at, is_weight_line, weight_field, form_says, weight_line_says, weights_say};
 
 use crate::fault::Fault;
 use crate::requirements::{require_chance, require_sheet};
@@ -46,7 +46,7 @@ fn read_weighing<K: Written>(text: &[u8]) -> Result<Weighing<K>, Reason>
 
 /// What the line of this number says of a table: its form is judged before its chance.
 fn weight_line<K: Written>(table: &Table, text: &[u8], line: usize) -> Result<Weighing<K>, Fault>
-    ensures { result ≡ line_says K.reading (roles table.now) line text.now }
+    ensures { result ≡ weight_line_says K.reading (roles table.now) line text.now }
 {
     let weighing = read_weighing(text).map_err(|reason| TextFault::Line { reason, line })?;
     require_chance(table, weighing.variable).map_err(|_| Fault::WeightLine { line })?;

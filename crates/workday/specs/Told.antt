@@ -30,7 +30,7 @@ read_refusal (Err f) ns cs = Some (Text f)
 abbrev pub refusal_of : List ℕ → Option table.Fault
 refusal_of file = read_refusal (read_from largest file).answer (read_from largest file).nodes (read_from largest file).children
 
--- the text says this refusal and nothing else, if there is one
-abbrev pub told : Option table.Fault → List ℕ → Type 0
-told (Some f) text = text ≡ refused_words (codes "plant file") (Table f)
-told None text = Unit {0}
+-- a text says this refusal and nothing else, if there is one
+abbrev pub SaysRefusal : Option table.Fault → List ℕ → Type 0
+SaysRefusal (Some f) text = text ≡ refused_words (codes "plant file") (Table f)
+SaysRefusal None text = Unit {0}

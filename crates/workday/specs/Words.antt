@@ -2,11 +2,9 @@
 use Rattle.std.specs.Prelude.{ℕ, Bool, cond, List, [], ◌++◌, ◌==◌, Some, None, Ok, Err, codes, decimal, Option}
 use Rattle.text.specs.declared.fault.Reason.{Reason}
 use Rattle.text.specs.declared.fault.Reason.TheVariants as reason
-use Rattle.text.specs.declared.fault.Fault.{Fault as TextFault}
 use Rattle.text.specs.declared.fault.Fault.TheVariants as text
 use Rattle.table.specs.declared.fault.Flaw.{Flaw}
 use Rattle.table.specs.declared.fault.Flaw.TheVariants as flaw
-use Rattle.table.specs.declared.fault.Fault.{Fault as TableFault}
 use Rattle.table.specs.declared.fault.Fault.TheVariants as table
 use Rattle.kinds.specs.declared.value.Tally.{Tally}
 use Rattle.search.specs.Faults.{fault_number, fault_place}
@@ -15,13 +13,10 @@ use Rattle.search.specs.declared.fault.Fault.TheVariants.{Table, ShortSheet, Str
 use Rattle.search.specs.declared.call.Call.{Call}
 use Rattle.search.specs.declared.call.Call.TheVariants as call
 use Rattle.search.specs.Day.{Answer}
-use Rattle.search.specs.declared.call.Reply.{Reply}
 use Rattle.search.specs.declared.call.Reply.TheVariants as reply
-use Rattle.search.specs.declared.found.Found.{Found}
 use Rattle.search.specs.declared.found.Selection.{Selection}
 
--- what a refusal means: of a line, of a node, and of any layer
-
+-- why a line is refused
 abbrev pub reason_meaning : Reason → List ℕ
 reason_meaning reason.Line = codes "a line is missing, not closed, not due, or has not its fields"
 reason_meaning reason.Number = codes "a number, literal or weight has not its form"
@@ -30,6 +25,7 @@ reason_meaning reason.Store = codes "there are more nodes or children than there
 reason_meaning reason.Variable = codes "a variable's number, letter or name, or the count of options, breaks its rule"
 reason_meaning reason.Children = codes "there are more or fewer children than the first line says"
 
+-- why a node is refused
 abbrev pub flaw_meaning : Flaw → List ℕ
 flaw_meaning flaw.Order = codes "a child's number is not below its node's"
 flaw_meaning flaw.Variable = codes "the variable of a literal or fork is not one of the plant's"
@@ -38,16 +34,11 @@ flaw_meaning flaw.Branch = codes "a branch of a fork lacks the literal of its si
 flaw_meaning flaw.Uneven = codes "the two branches of a fork mention different chances"
 flaw_meaning flaw.Missing = codes "the root does not mention every chance"
 
-abbrev pub text_meaning : TextFault → List ℕ
-text_meaning text.Length = codes "the file is empty, or longer than 65,536 bytes"
-text_meaning (text.Line r line) = reason_meaning r
-
-abbrev pub table_meaning : TableFault → List ℕ
-table_meaning (table.Text f) = text_meaning f
-table_meaning (table.Node f node) = flaw_meaning f
-
+-- what a refusal of any layer means
 abbrev pub meaning_of : Fault → List ℕ
-meaning_of (Table f) = table_meaning f
+meaning_of (Table (table.Text text.Length)) = codes "the file is empty, or longer than 65,536 bytes"
+meaning_of (Table (table.Text (text.Line r line))) = reason_meaning r
+meaning_of (Table (table.Node f node)) = flaw_meaning f
 meaning_of ShortSheet = codes "the sheet has too few figures"
 meaning_of StrayHold = codes "something is held that is not an option of this plant"
 meaning_of (NoOption v) = codes "this is not an option"
@@ -58,33 +49,26 @@ meaning_of (NotHeld v) = codes "the option is not held"
 meaning_of StillFree = codes "an option is still free"
 meaning_of ShortWork = codes "the work table is too short"
 
--- what a refusal's place is the number of
-
-abbrev pub text_kind : TextFault → List ℕ
-text_kind text.Length = codes "place"
-text_kind (text.Line r line) = codes "line"
-
-abbrev pub table_kind : TableFault → List ℕ
-table_kind (table.Text f) = text_kind f
-table_kind (table.Node f node) = codes "node"
-
-abbrev pub kind_of : Fault → List ℕ
-kind_of (Table f) = table_kind f
-kind_of ShortSheet = codes "place"
-kind_of StrayHold = codes "place"
-kind_of (NoOption v) = codes "variable"
-kind_of (NoChance v) = codes "variable"
-kind_of (WeightLine l) = codes "line"
-kind_of (Held v) = codes "variable"
-kind_of (NotHeld v) = codes "variable"
-kind_of StillFree = codes "place"
-kind_of ShortWork = codes "place"
+-- the word for what a refusal's place is the number of
+abbrev pub place_word : Fault → List ℕ
+place_word (Table (table.Text text.Length)) = codes "place"
+place_word (Table (table.Text (text.Line r line))) = codes "line"
+place_word (Table (table.Node f node)) = codes "node"
+place_word ShortSheet = codes "place"
+place_word StrayHold = codes "place"
+place_word (NoOption v) = codes "variable"
+place_word (NoChance v) = codes "variable"
+place_word (WeightLine l) = codes "line"
+place_word (Held v) = codes "variable"
+place_word (NotHeld v) = codes "variable"
+place_word StillFree = codes "place"
+place_word ShortWork = codes "place"
 
 -- a refusal, with its number and its place
 abbrev pub refusal_words : Fault → List ℕ
 refusal_words f =
     codes "refusal " ++ (decimal (fault_number f)
-    ++ (codes ", " ++ (kind_of f
+    ++ (codes ", " ++ (place_word f
     ++ (codes " " ++ (decimal (fault_place f)
     ++ (codes ": " ++ meaning_of f))))))
 
@@ -101,30 +85,24 @@ call_words name call.Figure = codes "Figure of the selection held"
 call_words name call.Bound = codes "Bound on what can be reached under the holds"
 call_words name call.Select = codes "Best selection under the holds"
 
--- what select found, with the names of the options that are on
-
+-- what select found: the best selection, if there is one, with the openings and the names of the options that are on
 abbrev pub best_words : List ℕ → ℕ → Option (Selection Tally) → List ℕ
 best_words names openings (Some best) = codes "figure " ++ (decimal best.figure.count ++ (codes ", openings " ++ (decimal openings ++ (codes ", on: " ++ names))))
 best_words names openings None = codes "none has a figure above 0, openings " ++ decimal openings
 
-abbrev pub found_words : List ℕ → Found Tally → List ℕ
-found_words names found = best_words names found.openings found.best
-
-abbrev pub reply_words : List ℕ → Reply Tally → List ℕ
-reply_words names reply.Done = codes "done"
-reply_words names (reply.Value figure) = decimal figure.count
-reply_words names (reply.Chosen found) = found_words names found
-
+-- an answer, with the names of the options that are on in a selection that it gives
 abbrev pub answer_words : List ℕ → Answer Tally → List ℕ
-answer_words names (Ok r) = reply_words names r
+answer_words names (Ok reply.Done) = codes "done"
+answer_words names (Ok (reply.Value figure)) = decimal figure.count
+answer_words names (Ok (reply.Chosen found)) = best_words names found.openings found.best
 answer_words names (Err f) = refusal_words f
 
--- what a plant is too small for, by how many options and how many chances it has
-
+-- what a plant with so many options is too small for
 abbrev pub options_words : ℕ → List ℕ
 options_words n =
     cond (n == 0) (codes "The plant has no option: none is held or tried.\n")
     (cond (n == 1) (codes "The plant has no second option: none is tried.\n") [])
 
+-- what a plant with so many chances is too small for
 abbrev pub chances_words : ℕ → List ℕ
 chances_words n = cond (n == 0) (codes "The plant has no chance: no weight is revised.\n") []

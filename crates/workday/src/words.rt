@@ -1,6 +1,6 @@
 //! Refusals, calls and answers in words.
 ghost use Rattle.std.specs.Prelude.{◌≡◌, Some};
-ghost use Rattle.workday.specs.Words.{meaning_of, reason_meaning, flaw_meaning, kind_of, refusal_words, side_word, call_words, answer_words};
+ghost use Rattle.workday.specs.Words.{meaning_of, reason_meaning, flaw_meaning, place_word, refusal_words, side_word, call_words, answer_words};
 
 use kinds::value::Tally;
 use search::call::{Call, Reply};
@@ -68,7 +68,7 @@ fn meaning(fault: Fault) -> &'static str
 
 /// What a refusal's place is the number of.
 fn place_kind(fault: Fault) -> &'static str
-    ensures { result.now ≡ kind_of fault }
+    ensures { result.now ≡ place_word fault }
 {
     match fault {
         Fault::Table(TableFault::Text(TextFault::Line { .. })) | Fault::WeightLine { .. } => "line",

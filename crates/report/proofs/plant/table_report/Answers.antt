@@ -3,7 +3,7 @@ use Rattle.std.proofs.lemmas.List.{length-replicate}
 use Rattle.text.specs.Printed.{text_of}
 use Rattle.table.specs.Whole.{circuit}
 use Rattle.report.specs.Plant.{sheet_room, work_room}
-use Rattle.report.proofs.Planning.{refused_says, unread, read, unbounded, unselected, selected}
+use Rattle.report.proofs.Planning.{refused_says, unread, read, unanswered, selected}
 use Rattle.report.proofs.plant.table_report.Goals as goal
 
 pub returns-in_err-read_weights : goal.returns-in_err-read_weights
@@ -22,8 +22,8 @@ returns-in_err-most g c =
     (read g.K.Figure.ring g.K.Written.text (g.O.BranchingOrder.picks c.args.order.now) t.variables (circuit t) g.K.Written.reading work_room
     (replicate sheet_room g.K.Figure.ring.zero) c.deref_mut.result.now (c.deref_mut.ensures.value ∙ c.in_ok-figures.ensures) c.args.weights.now
     c.in_ok-read_weights.ensures.answer sheet c.in_ok-read_weights.ensures.sheet
-    ∙ unbounded g.K.Figure.ring g.K.Written.text (g.O.BranchingOrder.picks c.args.order.now) t.variables (circuit t) work_room sheet
-    c.new-holds.result.entries c.new-holds.ensures (length c.deref_mut-2.result.now) (ap length (c.deref_mut-2.ensures.value ∙ c.in_ok-work.ensures) ∙ length-replicate work_room g.K.Figure.ring.zero) _ c.in_err-most.ensures.answer)
+    ∙ unanswered g.K.Figure.ring g.K.Written.text (g.O.BranchingOrder.picks c.args.order.now) t.variables (circuit t) work_room sheet
+    c.new-holds.result.entries c.new-holds.ensures _ (length c.deref_mut-2.result.now) (ap length (c.deref_mut-2.ensures.value ∙ c.in_ok-work.ensures) ∙ length-replicate work_room g.K.Figure.ring.zero) _ c.in_err-most.ensures.answer)
 
 pub returns-in_err-found : goal.returns-in_err-found
 returns-in_err-found g c =
@@ -33,8 +33,8 @@ returns-in_err-found g c =
     (read g.K.Figure.ring g.K.Written.text (g.O.BranchingOrder.picks c.args.order.now) t.variables (circuit t) g.K.Written.reading work_room
     (replicate sheet_room g.K.Figure.ring.zero) c.deref_mut.result.now (c.deref_mut.ensures.value ∙ c.in_ok-figures.ensures) c.args.weights.now
     c.in_ok-read_weights.ensures.answer sheet c.in_ok-read_weights.ensures.sheet
-    ∙ unselected g.K.Figure.ring g.K.Written.text (g.O.BranchingOrder.picks c.args.order.now) t.variables (circuit t) work_room sheet
-    c.new-holds.result.entries c.new-holds.ensures (length c.deref_mut-2.result.now) (ap length (c.deref_mut-2.ensures.value ∙ c.in_ok-work.ensures) ∙ length-replicate work_room g.K.Figure.ring.zero) c.in_ok-most.most c.in_ok-most.ensures.answer
+    ∙ unanswered g.K.Figure.ring g.K.Written.text (g.O.BranchingOrder.picks c.args.order.now) t.variables (circuit t) work_room sheet
+    c.new-holds.result.entries c.new-holds.ensures _
     (length c.deref_mut-3.result.now) (c.deref_mut-3.ensures.len ∙ sym c.deref_mut-2.ensures.len ∙ ap length (c.deref_mut-2.ensures.value ∙ c.in_ok-work.ensures) ∙ length-replicate work_room g.K.Figure.ring.zero) _ c.in_err-found.ensures.answer)
 
 pub returns : goal.returns

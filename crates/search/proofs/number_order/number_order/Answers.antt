@@ -1,4 +1,4 @@
-use Rattle.search.specs.OrdersLemmas.{lowest_answers}
+use Rattle.search.proofs.Ordering.{lowest_answers}
 use Rattle.search.proofs.number_order.number_order.Goals as goal
 
 pub returns : goal.returns

@@ -1,4 +1,4 @@
-use Rattle.search.specs.OrdersLemmas.{strongest_answers}
+use Rattle.search.proofs.Ordering.{strongest_answers}
 use Rattle.search.proofs.strongest_lean.strongest_lean.Goals as goal
 
 pub returns : goal.returns

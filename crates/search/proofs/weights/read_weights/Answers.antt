@@ -15,7 +15,7 @@ use Rattle.table.specs.Nodes.{roles_of}
 use Rattle.table.specs.Whole.{roles}
 use Rattle.search.specs.declared.fault.Fault.TheVariants.{Table}
 use Rattle.search.specs.Study.{short_sheet}
-use Rattle.search.specs.Weights.{Reading, is_closed, read_on, weights_say}
+use Rattle.search.specs.Weights.{WeightReading, is_closed, weight_lines_say, weights_say}
 use Rattle.search.proofs.Testing.{refuses, passes}
 use Rattle.search.proofs.Weighings.{ends, ends_missing, ends_refused, goes_on, says_short, says_whole}
 use Rattle.search.proofs.weights.read_weights.Given as given
@@ -36,7 +36,7 @@ returns-in_err-require_sheet g c =
     record { same = refl; answer = p.1 ∙ ap Err (p.2 ∙ sym short.1) ∙ sym (ap (λ x. x.answer) e); sheet = sym (ap (λ x. x.sheet) e) }
 
 -- the sheet is long enough, and begins with ones; what is left to read says what the text says
-whole : (g : given.Over) (c : After-write_ones g) (told : Reading g.row.K.Denot) → read_on g.K.Written.reading (roles c.args.table.now) c.write_ones.new.figures 1 (lines c.args.text.now) (is_closed c.args.text.now) ≡ told
+whole : (g : given.Over) (c : After-write_ones g) (told : WeightReading g.row.K.Denot) → weight_lines_say g.K.Written.reading (roles c.args.table.now) c.write_ones.new.figures 1 (lines c.args.text.now) (is_closed c.args.text.now) ≡ told
     → weights_say g.K.Written.reading (roles c.args.table.now) g.K.Figure.ring.one c.args.sheet.now.figures.now c.args.text.now ≡ told
 whole g c told e =
     let rs = roles c.args.table.now in

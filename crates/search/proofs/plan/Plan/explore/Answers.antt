@@ -4,7 +4,6 @@ use Rattle.table.specs.Whole.{circuit, roles}
 use Rattle.passes.proofs.Roots.{options_many}
 use Rattle.search.specs.Select.{explored, of_table, start}
 use Rattle.search.proofs.Naming.{named_free}
-use Rattle.search.proofs.Turns.{option_is, option_none}
 use Rattle.search.proofs.Walks.{walk_start, walk_few, walk_less, walk_fork, walk_back, walk_end}
 use Rattle.search.proofs.plan.Plan.explore.Given as given
 use Rattle.search.proofs.plan.Plan.explore.Goals as goal
@@ -20,7 +19,7 @@ branches-init g c =
     let pick = g.O.BranchingOrder.picks c.args.self.now.order.now in
     let p = of_table R pick (roles t) (circuit t) c.args.self.now.sheet.now in
     record {
-      walking = walk_start R p c.options-levels.result c.args.holds.now.entries (start R pick (roles t) (circuit t) c.args.self.now.sheet.now);
+      walking = walk_start R p c.options-levels.result c.args.holds.now.entries start;
       behind = refl;
     }
 
@@ -38,8 +37,8 @@ returns-then-depth-eq0 g c =
     let b = c.retreat-depth.ensures in
     record {
       found = walk_end c.branches.invariant.walking c.open.ensures.found (few g (goal.at.returns-then-depth-eq0 g c).After-options-levels)
-          (option_none _ (sym c.in-None.is ∙ c.open.ensures.option)) b.depth b.trail b.holds c.if-depth-eq0.true
-          ∙ ap (λ n. explored R (of_table R pick (roles t) (circuit t) c.args.self.now.sheet.now) n c.args.holds.now.entries (start R pick (roles t) (circuit t) c.args.self.now.sheet.now))
+          (sym c.in-None.is ∙ c.open.ensures.option) b.depth b.trail b.holds c.if-depth-eq0.true
+          ∙ ap (λ n. explored R (of_table R pick (roles t) (circuit t) c.args.self.now.sheet.now) n c.args.holds.now.entries start)
           (c.options-levels.ensures ∙ sym (options_many t));
       work = c.open.ensures.work ∙ c.branches.invariant.behind;
     }
@@ -52,7 +51,7 @@ branches-preserved g c =
     let b = c.retreat-depth.ensures in
     record {
       walking = walk_back c.branches.invariant.walking c.open.ensures.found (few g (goal.at.branches-preserved g c).After-options-levels)
-          (option_none _ (sym c.in-None.is ∙ c.open.ensures.option)) b.depth b.trail b.holds (omega arith);
+          (sym c.in-None.is ∙ c.open.ensures.option) b.depth b.trail b.holds (omega arith);
       behind = c.open.ensures.work ∙ c.branches.invariant.behind;
     }
 
@@ -64,9 +63,8 @@ branches-preserved-in-Some g c =
     let t = c.args.self.now.table.now in
     let pick = g.O.BranchingOrder.picks c.args.self.now.order.now in
     let law = g.met.O.BranchingOrder.names c.args.self.now.order.now in
-    let v = option_is _ c.in-Some.option (sym c.in-Some.is ∙ c.open.ensures.option) in
     record {
-      walking = walk_fork c.branches.invariant.walking c.open.ensures.found (few g (goal.at.branches-preserved-in-Some g c).After-options-levels) v.0 (omega (arith, v))
-          (named_free g.K.Figure.ring pick law (roles t) (circuit t) c.args.self.now.sheet.now c.branches.current.entries) c.hold.ensures;
+      walking = walk_fork c.branches.invariant.walking c.open.ensures.found (few g (goal.at.branches-preserved-in-Some g c).After-options-levels) (sym c.in-Some.is ∙ c.open.ensures.option)
+          (named_free g.K.Figure.ring pick law (roles t) c.branches.current.entries (circuit t) c.args.self.now.sheet.now) c.hold.ensures;
       behind = c.open.ensures.work ∙ c.branches.invariant.behind;
     }

@@ -17,11 +17,11 @@ pub record Kept {F : Type 0} (R : Semiring F) (p : Branching F) (n : ℕ) (h₀ 
 abbrev pub invariant-branches : goal.invariant-branches
 invariant-branches g l =
     Kept g.K.Figure.ring (of_table g.K.Figure.ring (g.O.BranchingOrder.picks l.self.order.now) (roles l.self.table.now) (circuit l.self.table.now) l.self.sheet.now)
-    l.levels l.holds.entries (start g.K.Figure.ring (g.O.BranchingOrder.picks l.self.order.now) (roles l.self.table.now) (circuit l.self.table.now) l.self.sheet.now)
+    l.levels l.holds.entries start
     (pair_places (roles l.self.table.now) (circuit l.self.table.now)) l.initial.work l.trail l.depth l.current.entries l.found l.work
 
 abbrev pub decreases-branches : goal.decreases-branches
 decreases-branches g l =
     (explored g.K.Figure.ring (of_table g.K.Figure.ring (g.O.BranchingOrder.picks l.self.order.now) (roles l.self.table.now) (circuit l.self.table.now) l.self.sheet.now)
-    l.levels l.holds.entries (start g.K.Figure.ring (g.O.BranchingOrder.picks l.self.order.now) (roles l.self.table.now) (circuit l.self.table.now) l.self.sheet.now)).openings
+    l.levels l.holds.entries start).openings
     - l.found.openings

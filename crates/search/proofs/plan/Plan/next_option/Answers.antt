@@ -1,5 +1,5 @@
 use Rattle.std.specs.List.{list_all}
-use Rattle.std.proofs.Common.{◌≡◌, ℕ, ◌<◌, length, take, sym, ap, ◌∙◌, arith}
+use Rattle.std.proofs.Common.{◌≡◌, ℕ, ◌<◌, length, take, Some, sym, ap, ◌∙◌, arith}
 use Rattle.std.proofs.lemmas.List.{length-take-le}
 use Rattle.table.specs.Sound.{options}
 use Rattle.table.specs.Whole.{circuit, roles}
@@ -7,11 +7,9 @@ use Rattle.table.proofs.Asked.{variables_few}
 use Rattle.search.specs.Listing.{root_mentions, choices}
 use Rattle.search.specs.Orders.{rising, options_of, placed, told}
 use Rattle.search.specs.Select.{named}
-use Rattle.search.specs.Walk.{as_option}
-use Rattle.search.specs.Rising.{free_rising}
+use Rattle.search.proofs.Rising.{free_rising}
 use Rattle.search.proofs.Told.{choices_free, choices_placed, told_some}
-use Rattle.search.proofs.Naming.{told_names}
-use Rattle.search.proofs.Turns.{gate_some, option_some}
+use Rattle.search.proofs.Turns.{next_at_some}
 use Rattle.search.proofs.plan.Plan.next_option.Given as given
 use Rattle.search.proofs.plan.Plan.next_option.Goals as goal
 use Rattle.search.proofs.plan.Plan.next_option.Goals.{After-list_choices-count}
@@ -47,6 +45,5 @@ returns g c =
     let pick = g.O.BranchingOrder.picks c.args.self.now.order.now in
     let R = g.K.Figure.ring in
     let part = c.args.part.now in
-    let some = told_names R pick (g.met.O.BranchingOrder.names c.args.self.now.order.now) (root_mentions (circuit t)) (roles t) c.args.holds.now.entries part _ (listed g a) (some_listed g a (omega arith)) in
-    option_some c.pick.result (omega (arith, c.pick.ensures, some))
-    ∙ ap as_option (c.pick.ensures ∙ told_some pick R part _ (some_listed g a (omega arith)) ∙ ap (λ cs. named pick (told R part cs)) (listed g a) ∙ sym (gate_some c.args.levels _ (omega arith)))
+    ap Some c.pick.ensures ∙ told_some pick R part _ (some_listed g a (omega arith)) ∙ ap (λ cs. named pick (told R part cs)) (listed g a)
+    ∙ sym (next_at_some c.args.levels _ (omega arith))

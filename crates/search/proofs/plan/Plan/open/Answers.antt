@@ -1,11 +1,11 @@
-use Rattle.std.proofs.Common.{◌≡◌, ℕ, ◌+◌, ◌-◌, ◌*◌, ◌<◌, ◌≤◌, Bool, not, length, drop, sym, ap, ◌∙◌, ap₂, arith, rules}
+use Rattle.std.proofs.Common.{◌≡◌, ℕ, ◌+◌, ◌-◌, ◌*◌, ◌<◌, ◌≤◌, Bool, not, is_some, length, drop, sym, ap, ◌∙◌, ap₂, arith, rules}
 use Rattle.std.proofs.lemmas.List.{length-take-le, length-drop}
 use Rattle.table.specs.Whole.{circuit, roles}
 use Rattle.passes.specs.Holding.{selected}
 use Rattle.passes.specs.Places.{pair_places}
 use Rattle.passes.proofs.Roots.{some_node, node_count, last_part}
 use Rattle.search.specs.Select.{Branching, best_figure, opened, offered, of_table, named}
-use Rattle.search.specs.Walk.{as_option, gate}
+use Rattle.search.specs.Walk.{next_at}
 use Rattle.search.proofs.Leaning.{parts_kept, counts_kept, told_leans}
 use Rattle.search.proofs.Turns.{turn_cut, turn_option, turn_leaf, turn_fork}
 use Rattle.search.proofs.plan.Plan.open.Given as given
@@ -32,7 +32,7 @@ returns-then-cut g c =
     let h = c.args.holds.now.entries in
     let e = sym (turn_cut R (its g a) c.args.levels h c.args.found.now (cut_is g a _ c.if-cut.true)) in
     record {
-      option = ap (λ t. as_option t.0) e;
+      option = ap (λ t. t.0) e;
       found = ap (λ t. t.1) e;
       work = parts_kept R (roles t) (circuit t) c.args.self.now.sheet.now h _ _ c.pair_bound-bound.ensures.work;
     }
@@ -67,14 +67,14 @@ next_option-next-requires g c =
     length-take-le (base + stride - base) (drop base work) (omega (arith, length-drop base work)) ∙ (let e : base + stride - base ≡ stride = omega arith in e) ∙ c.stride-stride.ensures
 
 -- the option to branch on
-next_is : (g : given.Over) (c : After-next_option-next g) → c.next_option-next.result ≡ as_option (gate c.args.levels ((its g (at-After-next_option-next g c).After-no_higher-cut).next c.args.holds.now.entries))
+next_is : (g : given.Over) (c : After-next_option-next g) → c.next_option-next.result ≡ next_at c.args.levels ((its g (at-After-next_option-next g c).After-no_higher-cut).next c.args.holds.now.entries)
 next_is g c =
     let t = c.args.self.now.table.now in
     let stride = c.stride-stride.result in
     let pick = g.O.BranchingOrder.picks c.args.self.now.order.now in
     c.next_option-next.ensures
-    ∙ ap (λ ls. as_option (gate c.args.levels (named pick ls)))
-    (told_leans g.K.Figure.ring pick (roles t) (circuit t) c.args.self.now.sheet.now c.args.holds.now.entries stride ((length t.nodes.now - 1) * stride) _ _
+    ∙ ap (λ ls. next_at c.args.levels (named pick ls))
+    (told_leans g.K.Figure.ring (roles t) (circuit t) c.args.self.now.sheet.now c.args.holds.now.entries stride ((length t.nodes.now - 1) * stride) _ _
     c.stride-stride.ensures (omega (arith, node_count t, some_node t)) (ap (λ n. (n - 1) * stride) (sym (node_count t))) c.pair_bound-bound.ensures.work)
 
 pub returns-then-is_none : goal.returns-then-is_none
@@ -87,9 +87,9 @@ returns-then-is_none g c =
     let f = cut_is g a _ c.if-cut.false in
     let sheet = c.args.self.now.sheet.now in
     record {
-      option = is ∙ ap as_option (sym (turn_option R (its g a) c.args.levels h c.args.found.now f));
+      option = is ∙ sym (turn_option R (its g a) c.args.levels h c.args.found.now f);
       found = c.offer.ensures ∙ ap (λ f. offered R h f (opened c.args.found.now)) c.count_figure-figure.ensures.answer
-          ∙ sym (turn_leaf R (its g a) c.args.levels h c.args.found.now f _ is (c.is_none.ensures ∙ ap not c.if-is_none.true));
+          ∙ sym (turn_leaf R (its g a) c.args.levels h c.args.found.now f (sym (ap is_some is) ∙ c.is_none.ensures ∙ ap not c.if-is_none.true));
       work = counts_kept R (roles t) (circuit t) sheet (selected h) _ _ c.count_figure-figure.ensures.work
           ∙ parts_kept R (roles t) (circuit t) sheet h _ _ c.pair_bound-bound.ensures.work;
     }
@@ -103,7 +103,7 @@ returns-else-is_none g c =
     let h = c.args.holds.now.entries in
     let f = cut_is g a _ c.if-cut.false in
     record {
-      option = is ∙ ap as_option (sym (turn_option R (its g a) c.args.levels h c.args.found.now f));
-      found = sym (turn_fork R (its g a) c.args.levels h c.args.found.now f _ is (c.is_none.ensures ∙ ap not c.if-is_none.false));
+      option = is ∙ sym (turn_option R (its g a) c.args.levels h c.args.found.now f);
+      found = sym (turn_fork R (its g a) c.args.levels h c.args.found.now f (sym (ap is_some is) ∙ c.is_none.ensures ∙ ap not c.if-is_none.false));
       work = parts_kept R (roles t) (circuit t) c.args.self.now.sheet.now h _ _ c.pair_bound-bound.ensures.work;
     }

@@ -3,7 +3,9 @@ use Rattle.std.specs.List.{filter}
 use Rattle.std.proofs.lemmas.Iterator.{YieldsList-from_slice}
 use Rattle.std.proofs.lemmas.Iterator.Consumers.{YieldsList-at, YieldsList-from_copied, YieldsList-from_filter}
 use Rattle.search.specs.declared.choice.Choice.{Choice}
-use Rattle.search.proofs.Leading.{reduce_callable, reduce_given, strongest_told, filter_placed}
+use Rattle.passes.proofs.Chains.{reduce_given}
+use Rattle.search.specs.Orders.{stronger}
+use Rattle.search.proofs.Leading.{reduce_callable, strongest_told, filter_placed}
 use Rattle.search.proofs.strongest_lean.StrongestLeanBranchingOrder.pick.Goals as goal
 use borrow.Author.Tests.{tests}
 
@@ -20,7 +22,7 @@ returns g c =
     let part = c.args.part.now in
     let free = c.args.free.now in
     let mentioned = filter (λ (x : Choice). x.mentioned) free in
-    let best = reduce_given R part _ _ _ (length part) (λ b d p q. search rules) (λ b d r q k. search rules) mentioned
+    let best = reduce_given _ _ _ (stronger R part) (λ b d r q k. search rules) mentioned
     (YieldsList-from_filter _ (λ (x : Choice). x.mentioned) (YieldsList-at c.filter.ensures.source (YieldsList-from_copied (YieldsList-at c.copied.ensures.source (YieldsList-from_slice free cc)))) c.filter.ensures.closure (λ x b q k. search (rules, tests)))
     c.reduce.result c.reduce.ensures.ran in
     strongest_told R part free c.requires.some _ c.unwrap_or.result c.reduce.result c.unwrap_or.ensures best

@@ -1,4 +1,4 @@
--- Number order and strongest lean are lawful, and what they answer. Assumes nothing.
+-- What number order and strongest lean answer. Assumes nothing.
 use Rattle.std.specs.Prelude.{◌≡◌, ℕ, ◌<◌, ◌≤◌, Bool, true, false, ltb, List, [], ◌∷◌, nat_lt, refl}
 use Rattle.std.specs.List.{list_all}
 use Rattle.std.proofs.Common.{sym, ap, subst, inl, inr, arith}
@@ -7,12 +7,10 @@ use Rattle.kinds.specs.Semiring.{Semiring, Laws}
 use Rattle.kinds.proofs.Ranks.{Upto, upto_refl, upto_other}
 use Rattle.table.specs.Facts.{Among}
 use Rattle.passes.specs.Holding.{filter}
-use Rattle.passes.proofs.Filters.{kept, filter_empty}
-use Rattle.search.specs.Orders.{Lean, numbers, rising, Lawful, lowest, LowestAnswers, weaker, weakest, weakest_or, strongest, Strongest, StrongestAnswers}
-use Rattle.search.specs.Rising.{among_listed, among_map, first_below, rising_filter}
-
-pub lawful_lowest : {F : Type 0} → Lawful (lowest {F = F})
-lawful_lowest l ls r = among_listed l.option (numbers (l ∷ ls)) (inl refl)
+use Rattle.passes.proofs.Filters.{filter_empty}
+use Rattle.search.specs.Orders.{Lean, numbers, rising, lowest, LowestAnswers, weaker, strongest_of, strongest_or, strongest, Strongest, StrongestAnswers}
+use Rattle.search.specs.Lawful.{mentioned_of, strongest_kept}
+use Rattle.search.proofs.Rising.{first_below, rising_filter}
 
 pub lowest_answers : (F : Type 0) → LowestAnswers F
 lowest_answers F l ls r = (inl refl, least)
@@ -30,31 +28,6 @@ stays p v (x ∷ xs) t (inr m) =
     cond_both (p x) (x ∷ filter p xs) (filter p xs) (Among v) (λ _. inr rest) (λ _. rest)
 
 module _ {F : Type 0} (R : Semiring F) where
-  abbrev mentioned_of : List (Lean F) → List (Lean F)
-  mentioned_of ls = filter (λ l. l.mentioned) ls
-
-  weakest_among : (l : Lean F) (ls : List (Lean F)) → Among (weakest R l ls) (l ∷ ls)
-  weakest_among l [] = inl refl
-  weakest_among l (x ∷ xs) = cond_both (R.upto (weaker R l) (weaker R x)) l x (λ z. Among (weakest R z xs) (l ∷ x ∷ xs))
-      (λ _. behind (weakest R l xs) (weakest_among l xs))
-      (λ _. inr (weakest_among x xs))
-    where
-      behind : (w : Lean F) → Among w (l ∷ xs) → Among w (l ∷ x ∷ xs)
-      behind w (inl e) = inl e
-      behind w (inr m) = inr (inr m)
-
-  -- the strongest of the mentioned ones is one of them
-  weakest_kept : (ls : List (Lean F)) (y : Lean F) (ys : List (Lean F)) → mentioned_of ls ≡ y ∷ ys
-      → Among (weakest R y ys) ls × ((weakest R y ys).mentioned ≡ true)
-  weakest_kept ls y ys e = kept (λ l. l.mentioned) (weakest R y ys) ls (subst (Among (weakest R y ys)) (sym e) (weakest_among y ys))
-
-  strongest_named : (l : Lean F) (ls zs : List (Lean F)) → mentioned_of (l ∷ ls) ≡ zs → Among (weakest_or R l.option zs) (numbers (l ∷ ls))
-  strongest_named l ls [] e = inl refl
-  strongest_named l ls (y ∷ ys) e = among_map (λ x. x.option) (weakest R y ys) (l ∷ ls) (weakest_kept (l ∷ ls) y ys e).0
-
-  pub lawful_strongest : Lawful (strongest R)
-  lawful_strongest l ls r = among_listed (strongest R (l ∷ ls)) (numbers (l ∷ ls)) (strongest_named l ls (mentioned_of (l ∷ ls)) refl)
-
   -- w ranks no higher than l, and has no higher number if they rank alike
   pub record Before (w l : Lean F) : Type 0 where
     pub upto : Upto R (weaker R w) (weaker R l)
@@ -85,37 +58,37 @@ module _ {F : Type 0} {R : Semiring F} (laws : Laws R) where
       })
   leads_over w l y ys above rest x (inr m) = rest x m
 
-  weakest_leads : (l : Lean F) (ls : List (Lean F)) → rising (numbers (l ∷ ls)) ≡ true → Leads R (weakest R l ls) (l ∷ ls)
-  weakest_leads l [] r x (inl e) = subst (Before R l) e (record { upto = upto_refl laws (weaker R l); number = λ _. omega arith })
-  weakest_leads l [] r x (inr m) = absurd m
-  weakest_leads l (y ∷ ys) r x m =
+  strongest_leads : (l : Lean F) (ls : List (Lean F)) → rising (numbers (l ∷ ls)) ≡ true → Leads R (strongest_of R l ls) (l ∷ ls)
+  strongest_leads l [] r x (inl e) = subst (Before R l) e (record { upto = upto_refl laws (weaker R l); number = λ _. omega arith })
+  strongest_leads l [] r x (inr m) = absurd m
+  strongest_leads l (y ∷ ys) r x m =
       let both = and_parts (list_all (ltb l.option) (numbers (y ∷ ys))) (rising (numbers (y ∷ ys))) r in
       let above = and_parts (nat_lt l.option y.option) (list_all (ltb l.option) (numbers ys)) both.0 in
       let rest = and_parts (list_all (ltb y.option) (numbers ys)) (rising (numbers ys)) both.1 in
-      cond_both (R.upto (weaker R l) (weaker R y)) l y (λ z. Before R (weakest R z ys) x)
-      (λ low. leads_behind (weakest R l ys) l y ys low (ltb-true _ _ above.0) (weakest_leads l ys (and_from _ _ above.1 rest.1)) x m)
-      (λ high. leads_over (weakest R y ys) l y ys high (weakest_leads y ys both.1) x m)
+      cond_both (R.upto (weaker R l) (weaker R y)) l y (λ z. Before R (strongest_of R z ys) x)
+      (λ low. leads_behind (strongest_of R l ys) l y ys low (ltb-true _ _ above.0) (strongest_leads l ys (and_from _ _ above.1 rest.1)) x m)
+      (λ high. leads_over (strongest_of R y ys) l y ys high (strongest_leads y ys both.1) x m)
 
   strongest_leans : (ls : List (Lean F)) → rising (numbers ls) ≡ true → (x : Lean F) → Among x ls → x.mentioned ≡ true
-      → (zs : List (Lean F)) → mentioned_of R ls ≡ zs → (l : Lean F) × Strongest R l ls × (strongest R ls ≡ l.option)
+      → (zs : List (Lean F)) → mentioned_of ls ≡ zs → (l : Lean F) × Strongest R l ls × (strongest R ls ≡ l.option)
   strongest_leans ls r x m t [] e = absurd (subst (Among x) e (stays (λ l. l.mentioned) x ls t m))
   strongest_leans ls r x m t (y ∷ ys) e =
-      let there = weakest_kept R ls y ys e in
+      let there = strongest_kept R ls y ys e in
       let order : rising (numbers (y ∷ ys)) ≡ true =
       subst (λ zs. rising (numbers zs) ≡ true) e (rising_filter (λ l. l.option) (λ l. l.mentioned) ls r) in
-      let leads : Leads R (weakest R y ys) (mentioned_of R ls) = subst (Leads R (weakest R y ys)) (sym e) (weakest_leads y ys order) in (
-        weakest R y ys,
+      let leads : Leads R (strongest_of R y ys) (mentioned_of ls) = subst (Leads R (strongest_of R y ys)) (sym e) (strongest_leads y ys order) in (
+        strongest_of R y ys,
         record {
           given = there.0;
           by_root = there.1;
           least = λ z n u. (leads z (stays (λ l. l.mentioned) z ls u n)).upto;
           first = λ z n u. (leads z (stays (λ l. l.mentioned) z ls u n)).number;
         },
-        ap (weakest_or R (lowest ls)) e,
+        ap (strongest_or R (lowest ls)) e,
       )
 
   pub strongest_answers : StrongestAnswers R
   strongest_answers = record {
-    leans = λ ls r x m t. strongest_leans ls r x m t (mentioned_of R ls) refl;
-    levels = λ ls h. ap (weakest_or R (lowest ls)) (filter_empty (λ l. l.mentioned) ls h);
+    leans = λ ls r x m t. strongest_leans ls r x m t (mentioned_of ls) refl;
+    levels = λ ls h. ap (strongest_or R (lowest ls)) (filter_empty (λ l. l.mentioned) ls h);
   }
