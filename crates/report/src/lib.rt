@@ -2,5 +2,6 @@
 #![tactic(auto)]
 
 pub mod answer;
+pub mod day;
 pub mod plant;
 pub mod stop;

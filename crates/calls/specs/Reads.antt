@@ -1,0 +1,9 @@
+-- What an answer says of a script. Assumes nothing.
+use Rattle.std.specs.Prelude.{◌≡◌, List, Ok, Err, Result}
+use Rattle.calls.specs.Script.{Read}
+use Rattle.calls.specs.declared.script.Script.{Script}
+use Rattle.calls.specs.declared.script.Malformed.{Malformed}
+
+abbrev pub Reads : {F : Type 0} → Read F → Result (Script F) Malformed → Type 0
+Reads said (Ok s) = said ≡ Ok (s.calls.items, s.file.now)
+Reads said (Err m) = said ≡ Err m.line
