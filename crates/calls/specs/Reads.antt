@@ -1,5 +1,5 @@
 -- What an answer says of a script. Assumes nothing.
-use Rattle.std.specs.Prelude.{◌≡◌, List, Ok, Err, Result}
+use Rattle.std.specs.Prelude.{◌≡◌, Ok, Err, Result}
 use Rattle.calls.specs.Script.{Read}
 use Rattle.calls.specs.declared.script.Script.{Script}
 use Rattle.calls.specs.declared.script.Malformed.{Malformed}

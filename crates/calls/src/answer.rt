@@ -29,10 +29,25 @@ pub fn calls(heap: Global, input: &[u8]) -> Result<String, AllocError>
     };
     let text = &input[line.len() + 1..];
     match (setup.kind, setup.order) {
-        (Kind::Tally, Order::Number) => set_up::<Tally, NumberOrder>(heap, &NumberOrder, setup, text),
-        (Kind::Tally, Order::Lean) => set_up::<Tally, StrongestLean>(heap, &StrongestLean, setup, text),
+        (Kind::Tally, Order::Number) => set_up::<Tally, NumberOrder>(
+            heap,
+            &NumberOrder,
+            setup,
+            text,
+        ),
+        (Kind::Tally, Order::Lean) => set_up::<Tally, StrongestLean>(
+            heap,
+            &StrongestLean,
+            setup,
+            text,
+        ),
         (Kind::Peak, Order::Number) => set_up::<Peak, NumberOrder>(heap, &NumberOrder, setup, text),
-        (Kind::Peak, Order::Lean) => set_up::<Peak, StrongestLean>(heap, &StrongestLean, setup, text),
+        (Kind::Peak, Order::Lean) => set_up::<Peak, StrongestLean>(
+            heap,
+            &StrongestLean,
+            setup,
+            text,
+        ),
     }
 }
 
