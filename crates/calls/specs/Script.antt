@@ -3,6 +3,7 @@
 -- A script is a list of lines, a line a list of fields: the first line sets a study up, each other makes a call. Behind
 -- the script stands a file.
 use Rattle.std.specs.Prelude.{ℕ, ◌+◌, Bool, true, false, cond, ◌&&◌, List, [], ◌∷◌, ◌++◌, length, drop, Some, None, Ok, Err, codes, Option, Result, ◌==◌}
+use Rattle.std.specs.Option.{option_map}
 use Rattle.std.specs.Str.{bytes_eq}
 use Rattle.text.specs.Lines.{lines, fields}
 use Rattle.text.specs.Numerals.{number}
@@ -45,29 +46,26 @@ side_of w = cond (bytes_eq w (codes "on")) (Some true) (cond (bytes_eq w (codes 
 abbrev pub is_call : List ℕ → ℕ → List ℕ → Bool
 is_call word count l = bytes_eq (field_at 1 l) word && length (fields l) == count
 
-module _ {F : Type 0} where
-  -- the number of an option and a side, for hold and for trial
-  abbrev pub sided : (ℕ → Bool → Call F) → List ℕ → Option (Call F)
-  sided call l = then (number (field_at 2 l)) (λ v. then (side_of (field_at 3 l)) (λ s. Some (call v s)))
+-- the number of an option and a side, for hold and for trial
+abbrev pub sided : List ℕ → Option (ℕ × Bool)
+sided l = then (number (field_at 2 l)) (λ v. then (side_of (field_at 3 l)) (λ s. Some (v, s)))
 
-  abbrev pub release_says : List ℕ → Option (Call F)
-  release_says l = then (number (field_at 2 l)) (λ v. Some (Release v))
+-- figures are read by `reading`
+module _ {F : Type 0} (reading : List ℕ → Option F) where
+  -- the number of a chance and its two weights
+  abbrev pub weigh_says : List ℕ → Option (Call F)
+  weigh_says l = then (number (field_at 2 l)) (λ v. then (reading (field_at 3 l)) (λ x. then (reading (field_at 4 l)) (λ y. Some (Weigh v x y))))
 
-  -- figures are read by `reading`
-  module _ (reading : List ℕ → Option F) where
-    abbrev pub weigh_says : List ℕ → Option (Call F)
-    weigh_says l = then (number (field_at 2 l)) (λ v. then (reading (field_at 3 l)) (λ x. then (reading (field_at 4 l)) (λ y. Some (Weigh v x y))))
-
-    -- behind its first field, which is C
-    abbrev pub call_says : List ℕ → Option (Call F)
-    call_says l =
-        cond (is_call (codes "hold") 4 l) (sided (λ v s. Hold v s) l)
-        (cond (is_call (codes "release") 3 l) (release_says l)
-        (cond (is_call (codes "weigh") 5 l) (weigh_says l)
-        (cond (is_call (codes "trial") 4 l) (sided (λ v s. Trial v s) l)
-        (cond (is_call (codes "figure") 2 l) (Some Figure)
-        (cond (is_call (codes "bound") 2 l) (Some Bound)
-        (cond (is_call (codes "select") 2 l) (Some Select) None))))))
+  -- behind its first field, which is C
+  abbrev pub call_says : List ℕ → Option (Call F)
+  call_says l =
+      cond (is_call (codes "hold") 4 l) (option_map (λ p. Hold p.0 p.1) (sided l))
+      (cond (is_call (codes "release") 3 l) (option_map Release (number (field_at 2 l)))
+      (cond (is_call (codes "weigh") 5 l) (weigh_says l)
+      (cond (is_call (codes "trial") 4 l) (option_map (λ p. Trial p.0 p.1) (sided l))
+      (cond (is_call (codes "figure") 2 l) (Some Figure)
+      (cond (is_call (codes "bound") 2 l) (Some Bound)
+      (cond (is_call (codes "select") 2 l) (Some Select) None))))))
 
 -- The lines together.
 

@@ -1,7 +1,7 @@
 //! What the program prints.
-ghost use Rattle.std.specs.Prelude.{◌≡◌, [], ◌∷◌, IfOk, string_bytes};
+ghost use Rattle.std.specs.Prelude.{◌≡◌, IfOk, string_bytes};
 ghost use Rattle.text.specs.Printed.{text_of};
-ghost use Rattle.calls.specs.Calls.{malformed as malformed_of, calls_report, calls as calls_of};
+ghost use Rattle.calls.specs.Calls.{calls_report, calls as calls_of};
 
 use crate::lines::setup_line;
 use crate::read::read_calls;
@@ -21,11 +21,12 @@ use text::fields::first_line;
 pub fn calls(heap: Global, input: &[u8]) -> Result<String, AllocError>
     ensures { IfOk result (λ s. string_bytes s ≡ text_of (calls_of input.now)) }
 {
+    let malformed = Malformed { line: 1 };
     let Some(line) = first_line(input) else {
-        return malformed_text(heap, Malformed { line: 1 });
+        return malformed.to_string(heap);
     };
     let Some(setup) = setup_line(line) else {
-        return malformed_text(heap, Malformed { line: 1 });
+        return malformed.to_string(heap);
     };
     let text = &input[line.len() + 1..];
     match (setup.kind, setup.order) {
@@ -66,14 +67,6 @@ fn set_up<K: Written, O: BranchingOrder<K>>(
     };
     match read_calls::<K>(heap, text)? {
         Ok(script) => day_report::<K, O>(heap, order, sizes, script.file, &script.calls),
-        Err(malformed) => malformed_text(heap, malformed),
+        Err(malformed) => malformed.to_string(heap),
     }
-}
-
-/// The line for a script whose line has not its form.
-fn malformed_text(heap: Global, malformed: Malformed) -> Result<String, AllocError>
-    ensures { IfOk result (λ s. string_bytes s ≡ text_of (malformed_of malformed.line ∷ [])) }
-{
-    let line = malformed.line;
-    format!(in heap; "E\t{line}\n")
 }

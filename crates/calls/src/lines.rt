@@ -1,7 +1,6 @@
 //! What the first line of a script and a line of a call say.
 ghost use Rattle.std.specs.Prelude.{◌≡◌};
-ghost use Rattle.calls.specs.Script.{kind_of, order_of, side_of, setup_says, is_call, sided, release_says, weigh_says, call_says};
-ghost use Rattle.search.specs.declared.call.Call.TheVariants.{Hold, Trial};
+ghost use Rattle.calls.specs.Script.{kind_of, order_of, side_of, setup_says, is_call, sided, weigh_says, call_says};
 
 use crate::setup::{Kind, Order, Setup};
 use kinds::written::Written;
@@ -20,6 +19,7 @@ fn kind(word: &[u8]) -> Option<Kind>
     }
 }
 
+// By `==`, and no match: of a pattern of six bytes the proof did not close. The same at `call_line`.
 /// The order that a word names.
 fn order(word: &[u8]) -> Option<Order>
     ensures { result ≡ order_of word.now }
@@ -75,13 +75,13 @@ pub fn call_line<K: Written>(line: &[u8]) -> Option<Call<K>>
     ensures { result ≡ call_says K.reading line.now }
 {
     if is_call(line, b"hold", 4) {
-        hold(line)
+        sided(line).map(|(variable, on)| Call::Hold { variable, on })
     } else if is_call(line, b"release", 3) {
-        release(line)
+        read_number(field(line, 2)).map(|variable| Call::Release { variable })
     } else if is_call(line, b"weigh", 5) {
         weigh(line)
     } else if is_call(line, b"trial", 4) {
-        trial(line)
+        sided(line).map(|(variable, on)| Call::Trial { variable, on })
     } else if is_call(line, b"figure", 2) {
         Some(Call::Figure)
     } else if is_call(line, b"bound", 2) {
@@ -93,21 +93,16 @@ pub fn call_line<K: Written>(line: &[u8]) -> Option<Call<K>>
     }
 }
 
-fn hold<K: Written>(line: &[u8]) -> Option<Call<K>>
-    ensures { result ≡ sided (λ v s. Hold v s) line.now }
+/// The number of an option and a side.
+fn sided(line: &[u8]) -> Option<(u16, bool)>
+    ensures { result ≡ sided line.now }
 {
     let variable = read_number(field(line, 2))?;
     let on = side(field(line, 3))?;
-    Some(Call::Hold { variable, on })
+    Some((variable, on))
 }
 
-fn release<K: Written>(line: &[u8]) -> Option<Call<K>>
-    ensures { result ≡ release_says line.now }
-{
-    let variable = read_number(field(line, 2))?;
-    Some(Call::Release { variable })
-}
-
+/// The number of a chance and its two weights.
 fn weigh<K: Written>(line: &[u8]) -> Option<Call<K>>
     ensures { result ≡ weigh_says K.reading line.now }
 {
@@ -115,12 +110,4 @@ fn weigh<K: Written>(line: &[u8]) -> Option<Call<K>>
     let on = K::read(field(line, 3))?;
     let off = K::read(field(line, 4))?;
     Some(Call::Weigh { variable, on, off })
-}
-
-fn trial<K: Written>(line: &[u8]) -> Option<Call<K>>
-    ensures { result ≡ sided (λ v s. Trial v s) line.now }
-{
-    let variable = read_number(field(line, 2))?;
-    let on = side(field(line, 3))?;
-    Some(Call::Trial { variable, on })
 }

@@ -11,7 +11,8 @@ mod setup;
 use std::io;
 use std::io::Read;
 
-// As in `quote`: no contract says what standard input gives.
+// To the end of the input: a script may have any length. As in `quote`, no contract says what standard
+// input gives.
 fn main(rt: HostRuntime) -> io::Result<()> {
     let mut input = Vec::new(rt.alloc());
     rt.stdin().read_to_end(&mut input)?;

@@ -26,12 +26,14 @@ pub fn read_calls<'a, K: Written>(
     let mut calls = Vec::new(heap);
     let mut rest = text;
     while begins_call(rest) {
-        let line = calls.len() + 2;
+        let malformed = Malformed {
+            line: calls.len() + 2,
+        };
         let Some(content) = first_line(rest) else {
-            return Ok(Err(Malformed { line }));
+            return Ok(Err(malformed));
         };
         let Some(call) = call_line(content) else {
-            return Ok(Err(Malformed { line }));
+            return Ok(Err(malformed));
         };
         calls.push(call)?;
         rest = &rest[content.len() + 1..];

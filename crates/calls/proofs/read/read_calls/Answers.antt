@@ -8,14 +8,14 @@ pub returns-in_default : goal.returns-in_default
 returns-in_default g c =
     sym c.loop-calls.invariant
     ∙ not_closed g.K.Written.reading c.loop-calls.calls.items c.loop-calls.rest.now (sym c.begins_call.ensures ∙ c.loop-calls-test.true) c.in_default.ensures
-    ∙ ap (λ n. Err (n + 2)) (omega (arith, c.len-line.ensures, c.loop-calls.calls.ok))
+    ∙ ap (λ n. Err (n + 2)) (omega (arith, c.len.ensures, c.loop-calls.calls.ok))
 
 pub returns-in_default-call_line : goal.returns-in_default-call_line
 returns-in_default-call_line g c =
     sym c.loop-calls.invariant
     ∙ has_not_its_form g.K.Written.reading c.loop-calls.calls.items c.loop-calls.rest.now (sym c.begins_call.ensures ∙ c.loop-calls-test.true)
     c.in-Some.content.now c.in-Some.ensures (sym c.in_default-call_line.ensures)
-    ∙ ap (λ n. Err (n + 2)) (omega (arith, c.len-line.ensures, c.loop-calls.calls.ok))
+    ∙ ap (λ n. Err (n + 2)) (omega (arith, c.len.ensures, c.loop-calls.calls.ok))
 
 pub loop-calls-preserved : goal.loop-calls-preserved
 loop-calls-preserved g c =
