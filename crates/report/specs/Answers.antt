@@ -1,14 +1,19 @@
 -- The text that a program prints for a list of calls on a plant. Assumes nothing.
-use Rattle.std.specs.Prelude.{ℕ, List, [], ◌∷◌, map, replicate, Ok, Err, codes, Option}
+use Rattle.std.specs.Prelude.{◌≡◌, ℕ, List, [], ◌∷◌, map, drop, replicate, Ok, Err, codes, Option}
 use Rattle.kinds.specs.Semiring.{Semiring}
 use Rattle.text.specs.Format.{listed}
 use Rattle.text.specs.Printed.{Lines}
+use Rattle.text.specs.declared.record.Contents.{Contents}
 use Rattle.text.specs.declared.record.Variable.{Variable}
 use Rattle.text.specs.declared.record.Variables.{Variables}
 use Rattle.table.specs.Circuit.{Shape}
-use Rattle.table.specs.Nodes.{roles_of}
-use Rattle.search.specs.Day.{Answer, new, answers}
+use Rattle.table.specs.Check.{check_says}
+use Rattle.table.specs.Nodes.{roles_of, shapes}
+use Rattle.table.specs.declared.mentions.Mentions.{Mentions}
+use Rattle.parts.specs.Parts.{largest, reading as read_from, nodes_of, children_of}
+use Rattle.search.specs.Day.{Book, Answer, Day, new, answers}
 use Rattle.search.specs.Orders.{Order}
+use Rattle.search.specs.Weights.{weights_say}
 use Rattle.search.specs.declared.call.Call.{Call}
 use Rattle.search.specs.declared.call.Reply.{Reply}
 use Rattle.search.specs.declared.call.Reply.TheVariants.{Done, Value, Chosen}
@@ -40,3 +45,16 @@ module _ {F : Type 0} (R : Semiring F) (text : F → List ℕ) (pick : Order F) 
   -- for a file
   abbrev pub day_report : List ℕ → Lines
   day_report file = unless_file_refused file table_day
+
+  -- where a file is accepted, these are the lines of the answers of a working day
+  abbrev pub MakesDay : List ℕ → Type 0
+  MakesDay file =
+      (c : Contents) (m : Mentions) → (read_from largest file).answer ≡ Ok c →
+      let vs = c.variables in
+      let ns = nodes_of largest file c in
+      let children = children_of largest file c in
+      let read = weights_say reading (roles_of vs) R.one (replicate sheet-size R.zero) (drop c.weights file) in
+      check_says vs ns children ≡ Ok m → read.answer ≡ Ok tt →
+      (given : List (Answer F)) × (end : Book F)
+      × Day R pick (roles_of vs) (shapes children ns) work-size (new read.sheet) cs given end
+      × (day_report file ≡ answer_lines text (listed vs) given)

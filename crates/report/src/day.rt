@@ -5,7 +5,7 @@ ghost use Rattle.text.specs.Printed.{text_of};
 ghost use Rattle.text.specs.Shown.{PlainNames};
 ghost use Rattle.table.specs.Whole.{circuit, roles};
 ghost use Rattle.search.specs.Day.{new, answers};
-ghost use Rattle.report.specs.Answers.{answer_line, answer_lines, table_day as table_day_of, day_report};
+ghost use Rattle.report.specs.Answers.{answer_line, answer_lines, table_day as table_day_of, day_report, MakesDay};
 ghost use Rattle.report.specs.Stops.{Says};
 
 use crate::answer::selection_text;
@@ -44,7 +44,8 @@ pub fn day_report<K: Written, O: BranchingOrder<K>>(
     file: &[u8],
     calls: &[Call<K>],
 ) -> Result<String, AllocError>
-    ensures { IfOk result (λ s. string_bytes s ≡ text_of (day_report K.ring K.text (O.picks order.now) K.reading sizes.sheet sizes.work calls.now file.now)) }
+    ensures text { IfOk result (λ s. string_bytes s ≡ text_of (day_report K.ring K.text (O.picks order.now) K.reading sizes.sheet sizes.work calls.now file.now)) }
+    ensures day { MakesDay K.ring K.text (O.picks order.now) K.reading sizes.sheet sizes.work calls.now file.now }
 {
     printed(heap, file_day::<K, O>(heap, order, sizes, file, calls))
 }
