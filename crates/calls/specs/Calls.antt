@@ -19,7 +19,8 @@ use Rattle.calls.specs.declared.setup.Setup.{Setup}
 abbrev pub malformed : ℕ → List (List ℕ)
 malformed line = codes "E" ∷ decimal line ∷ []
 
-module _ {F : Type 0} (R : Semiring F) (text : F → List ℕ) (reading : List ℕ → Option F) (pick : Picks F) (sheet-size work-size : ℕ) where
+-- for a kind, an order, and a sheet and a work table of so many figures
+module _ {F : Type 0} (R : Semiring F) (text : F → List ℕ) (pick : Picks F) (reading : List ℕ → Option F) (sheet-size work-size : ℕ) where
   -- for what was read
   abbrev pub script_report : Read F → Lines
   script_report (Ok said) = day_report R text pick reading sheet-size work-size said.0 said.1
@@ -31,15 +32,17 @@ module _ {F : Type 0} (R : Semiring F) (text : F → List ℕ) (reading : List �
 
 -- by the kind and the order
 abbrev pub by_setup : Kind → Order → (sheet-size work-size : ℕ) → List ℕ → Lines
-by_setup Tally Number s w = calls_report tallies tally_text tally_reading lowest s w
-by_setup Tally Lean s w = calls_report tallies tally_text tally_reading (strongest tallies) s w
-by_setup Peak Number s w = calls_report peaks peak_text peak_reading lowest s w
-by_setup Peak Lean s w = calls_report peaks peak_text peak_reading (strongest peaks) s w
+by_setup Tally Number s w = calls_report tallies tally_text lowest tally_reading s w
+by_setup Tally Lean s w = calls_report tallies tally_text (strongest tallies) tally_reading s w
+by_setup Peak Number s w = calls_report peaks peak_text lowest peak_reading s w
+by_setup Peak Lean s w = calls_report peaks peak_text (strongest peaks) peak_reading s w
 
+-- for what the first line says, and the text behind it
 abbrev pub set_up : Option Setup → List ℕ → Lines
 set_up None bytes = malformed 1 ∷ []
 set_up (Some s) bytes = by_setup s.kind s.order s.sheet s.work bytes
 
+-- for an input with these lines
 abbrev pub from_lines : List ℕ → List (List ℕ) → Lines
 from_lines input [] = malformed 1 ∷ []
 from_lines input (l ∷ ls) = set_up (setup_says l) (drop (length l + 1) input)

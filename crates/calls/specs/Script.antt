@@ -21,7 +21,7 @@ abbrev pub then : {A B : Type 0} → Option A → (A → Option B) → Option B
 then None next = None
 then (Some a) next = next a
 
--- The first line.
+-- The first line: a word names a kind, a word an order.
 
 abbrev pub kind_of : List ℕ → Option Kind
 kind_of w = cond (bytes_eq w (codes "tally")) (Some Tally) (cond (bytes_eq w (codes "peak")) (Some Peak) None)
@@ -37,7 +37,7 @@ setup_says l =
     Some (record { kind = k; order = o; sheet = s; work = w }))))))
     None
 
--- The line of a call.
+-- The line of a call: its word, and what that word wants. A word names a side.
 
 abbrev pub side_of : List ℕ → Option Bool
 side_of w = cond (bytes_eq w (codes "on")) (Some true) (cond (bytes_eq w (codes "off")) (Some false) None)

@@ -59,7 +59,7 @@ fn set_up<K: Written, O: BranchingOrder<K>>(
     setup: Setup,
     text: &[u8],
 ) -> Result<String, AllocError>
-    ensures { IfOk result (λ s. string_bytes s ≡ text_of (calls_report K.ring K.text K.reading (O.picks order.now) setup.sheet setup.work text.now)) }
+    ensures { IfOk result (λ s. string_bytes s ≡ text_of (calls_report K.ring K.text (O.picks order.now) K.reading setup.sheet setup.work text.now)) }
 {
     let sizes = Sizes {
         sheet: usize::from(setup.sheet),

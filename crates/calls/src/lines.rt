@@ -19,7 +19,7 @@ fn kind(word: &[u8]) -> Option<Kind>
     }
 }
 
-// By `==`, and no match: of a pattern of six bytes the proof did not close. The same at `call_line`.
+// By `==`, and no match: of a pattern of six bytes the proof did not close. So in `is_call`.
 /// The order that a word names.
 fn order(word: &[u8]) -> Option<Order>
     ensures { result ≡ order_of word.now }

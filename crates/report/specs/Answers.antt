@@ -27,6 +27,7 @@ module _ {F : Type 0} (text : F → List ℕ) (vs : List Variable) where
   reply_line (Value f) = codes "V" ∷ text f ∷ []
   reply_line (Chosen found) = selection_line text vs found
 
+  -- a refused call has the line of its refusal
   abbrev pub answer_line : Answer F → List (List ℕ)
   answer_line (Ok r) = reply_line r
   answer_line (Err f) = refusal f
