@@ -5,12 +5,8 @@ set -euo pipefail
 cd "$(dirname "${BASH_SOURCE[0]}")/.."
 programs=()
 for name in quote calls; do
-    if [ -d "crates/$name" ]; then
-        (cd "crates/$name" && rt run < /dev/null > /dev/null)
-        programs+=("--$name" "../crates/$name/out/$name")
-    else
-        echo "there is no crates/$name: left out"
-    fi
+    (cd "crates/$name" && rt run < /dev/null > /dev/null)
+    programs+=("--$name" "../crates/$name/out/$name")
 done
 cd reference
 cargo test --release --quiet --test documents

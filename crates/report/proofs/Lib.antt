@@ -1,2 +1,3 @@
 pub mod Naming
 pub mod Planning
+pub mod Answering

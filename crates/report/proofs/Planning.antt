@@ -1,5 +1,5 @@
 -- What is printed for a table and its weight text, by the answers on the way. Assumes nothing.
-use Rattle.std.proofs.Common.{◌≡◌, ℕ, List, [], ◌∷◌, length, drop, replicate, Some, None, Ok, Err, Option, Result, String, sym, refl, ap, ap₂, ◌∙◌, subst, arith}
+use Rattle.std.proofs.Common.{◌≡◌, ℕ, List, [], ◌∷◌, length, drop, Some, None, Ok, Err, Option, Result, String, sym, refl, ap, ap₂, ◌∙◌, subst, arith}
 use Rattle.std.specs.Result.{IsErr, IsErrAnd}
 use Rattle.std.specs.declared.alloc.Global.{Global}
 use Rattle.kinds.specs.Semiring.{Semiring}
@@ -28,7 +28,7 @@ use Rattle.search.specs.Weights.{WeightReading, weights_say}
 use Rattle.search.specs.declared.fault.Fault.{Fault}
 use Rattle.search.specs.declared.found.Found.{Found}
 use Rattle.report.specs.Report.{refusal, report_of}
-use Rattle.report.specs.Plant.{sheet_room, work_room, unless_refused, study_report, table_report, parts_report, plant_report}
+use Rattle.report.specs.Plant.{unless_refused, unless_file_refused, unless_weights_refused, study_report}
 use Rattle.report.specs.Stops.{Prints}
 use Rattle.report.specs.declared.stop.Stop.{Stop}
 use Rattle.report.specs.declared.stop.Stop.TheVariants.{Refused, NoMemory}
@@ -92,19 +92,19 @@ module _ {F : Type 0} (R : Semiring F) (text : F → List ℕ) (pick : Order F) 
         passed (λ e. e) (answered (tests size unheld) (tt {0})) lines (tt {0}) b.1
         ∙ sym (ap₂ (report_of text (listed vs)) (b.0 ∙ ap bound_of new) (s.0 ∙ ap found_of new))
 
-  -- the weight text, read into a sheet of so many zeros
+-- the weight text, read into a sheet of so many zeros
 
-  module _ (reading : List ℕ → Option F) (size : ℕ) (zeros start : List F) (blank : start ≡ zeros) (weights : List ℕ) where
-    abbrev read_into : List F → WeightReading F
-    read_into sheet = weights_say reading (roles_of vs) R.one sheet weights
+module _ {F : Type 0} (R : Semiring F) (reading : List ℕ → Option F) (vs : Variables) (zeros start : List F) (blank : start ≡ zeros) (weights : List ℕ) (next : List F → Lines) where
+  abbrev read_into : List F → WeightReading F
+  read_into sheet = weights_say reading (roles_of vs) R.one sheet weights
 
-    pub unread : (f : Fault) → Err f ≡ (read_into start).answer → table_report R text pick reading size vs ss zeros weights ≡ refusal f ∷ []
-    unread f is = stopped (λ e. e) (read_into zeros).answer (λ _. study_report R text pick size vs ss (read_into zeros).sheet) f (is ∙ ap (λ s. (read_into s).answer) blank)
+  pub unread : (f : Fault) → Err f ≡ (read_into start).answer → unless_weights_refused R reading vs zeros weights next ≡ refusal f ∷ []
+  unread f is = stopped (λ e. e) (read_into zeros).answer (λ _. next (read_into zeros).sheet) f (is ∙ ap (λ s. (read_into s).answer) blank)
 
-    pub read : Ok tt ≡ (read_into start).answer → (sheet : List F) → sheet ≡ (read_into start).sheet → table_report R text pick reading size vs ss zeros weights ≡ study_report R text pick size vs ss sheet
-    read is sheet left =
-        passed (λ e. e) (read_into zeros).answer (λ _. study_report R text pick size vs ss (read_into zeros).sheet) tt (is ∙ ap (λ s. (read_into s).answer) blank)
-        ∙ ap (study_report R text pick size vs ss) (sym (left ∙ ap (λ s. (read_into s).sheet) blank))
+  pub read : Ok tt ≡ (read_into start).answer → (sheet : List F) → sheet ≡ (read_into start).sheet → unless_weights_refused R reading vs zeros weights next ≡ next sheet
+  read is sheet left =
+      passed (λ e. e) (read_into zeros).answer (λ _. next (read_into zeros).sheet) tt (is ∙ ap (λ s. (read_into s).answer) blank)
+      ∙ ap next (sym (left ∙ ap (λ s. (read_into s).sheet) blank))
 
 -- a file whose parts are accepted
 
@@ -114,28 +114,30 @@ says_of P ls ms (Ok s) p e h = λ _. h p ∙ ap text_of (sym e)
 says_of P ls ms (Err (Refused f)) p e h = e ∙ h
 says_of P ls ms (Err (NoMemory m)) p e h = tt
 
-module _ {F : Type 0} (R : Semiring F) (text : F → List ℕ) (pick : Order F) (reading : List ℕ → Option F) (file : List ℕ) (p : Parts) (a : ArePartsOf largest file p) where
-  abbrev rest : Contents → Lines
-  rest c = parts_report R text pick reading c.variables (read_from largest file).nodes (read_from largest file).children (drop c.weights file)
+module _ (next : Variables → List Shape → List ℕ → Lines) (file : List ℕ) (p : Parts) (a : ArePartsOf largest file p) where
+  abbrev checked : Variables → List Node → List ℕ → List ℕ → Lines
+  checked vs ns cs weights = unless_refused Table (check_says vs ns cs) (λ _. next vs (shapes cs ns) weights)
 
-  read_file : plant_report R text pick reading file ≡ parts_report R text pick reading p.contents.variables p.nodes.items p.children.items (drop p.contents.weights file)
+  abbrev rest : Contents → Lines
+  rest c = checked c.variables (read_from largest file).nodes (read_from largest file).children (drop c.weights file)
+
+  read_file : unless_file_refused file next ≡ checked p.contents.variables p.nodes.items p.children.items (drop p.contents.weights file)
   read_file =
       passed (λ f. Table (Text f)) (read_from largest file).answer rest p.contents (sym a.is_accepted)
-      ∙ ap₂ (λ ns cs. parts_report R text pick reading p.contents.variables ns cs (drop p.contents.weights file)) (sym a.nodes_are) (sym a.children_are)
+      ∙ ap₂ (λ ns cs. checked p.contents.variables ns cs (drop p.contents.weights file)) (sym a.nodes_are) (sym a.children_are)
 
   module _ (ns : List Node) (cs : List ℕ) (en : ns ≡ p.nodes.items) (ec : cs ≡ p.children.items) where
-    abbrev next : Mentions → Lines
-    next m = table_report R text pick reading work_room p.contents.variables (shapes p.children.items p.nodes.items) (replicate sheet_room R.zero) (drop p.contents.weights file)
+    abbrev on_table : Mentions → Lines
+    on_table m = next p.contents.variables (shapes p.children.items p.nodes.items) (drop p.contents.weights file)
 
-    pub unchecked : (f : table.Fault) → check_says p.contents.variables ns cs ≡ Err f → plant_report R text pick reading file ≡ refusal (Table f) ∷ []
+    pub unchecked : (f : table.Fault) → check_says p.contents.variables ns cs ≡ Err f → unless_file_refused file next ≡ refusal (Table f) ∷ []
     unchecked f e =
-        read_file ∙ stopped Table (check_says p.contents.variables p.nodes.items p.children.items) next f (sym e ∙ ap₂ (check_says p.contents.variables) en ec)
+        read_file ∙ stopped Table (check_says p.contents.variables p.nodes.items p.children.items) on_table f (sym e ∙ ap₂ (check_says p.contents.variables) en ec)
 
     pub checked_file : (m : Mentions) (t : table_struct.Table) (weights : List ℕ) → t.nodes.now ≡ ns → t.children.now ≡ cs → t.variables ≡ p.contents.variables → check_says p.contents.variables ns cs ≡ Ok m
-        → weights ≡ drop p.contents.weights file
-        → plant_report R text pick reading file ≡ table_report R text pick reading work_room t.variables (circuit t) (replicate sheet_room R.zero) weights
+        → weights ≡ drop p.contents.weights file → unless_file_refused file next ≡ next t.variables (circuit t) weights
     checked_file m t weights tn tc tv e w =
         read_file
-        ∙ passed Table (check_says p.contents.variables p.nodes.items p.children.items) next m (sym e ∙ ap₂ (check_says p.contents.variables) en ec)
-        ∙ ap₂ (λ vs ss. table_report R text pick reading work_room vs ss (replicate sheet_room R.zero) (drop p.contents.weights file)) (sym tv) (ap₂ shapes (sym (tc ∙ ec)) (sym (tn ∙ en)))
-        ∙ ap (table_report R text pick reading work_room t.variables (circuit t) (replicate sheet_room R.zero)) (sym w)
+        ∙ passed Table (check_says p.contents.variables p.nodes.items p.children.items) on_table m (sym e ∙ ap₂ (check_says p.contents.variables) en ec)
+        ∙ ap₂ (λ vs ss. next vs ss (drop p.contents.weights file)) (sym tv) (ap₂ shapes (sym (tc ∙ ec)) (sym (tn ∙ en)))
+        ∙ ap (next t.variables (circuit t)) (sym w)

@@ -1,3 +1,4 @@
 pub mod Report
 pub mod Plant
 pub mod Stops
+pub mod Answers

@@ -3,7 +3,6 @@ use Rattle.std.specs.Prelude.{ℕ, List, [], ◌∷◌, length, drop, replicate,
 use Rattle.kinds.specs.Semiring.{Semiring}
 use Rattle.text.specs.Format.{listed}
 use Rattle.text.specs.Printed.{Lines}
-use Rattle.text.specs.declared.record.Node.{Node}
 use Rattle.text.specs.declared.record.Variables.{Variables}
 use Rattle.table.specs.Check.{check_says}
 use Rattle.table.specs.Circuit.{Shape}
@@ -32,6 +31,20 @@ abbrev pub unless_refused : {A E : Type 0} → (E → Fault) → Result A E → 
 unless_refused wrap (Ok a) next = next a
 unless_refused wrap (Err e) next = refusal (wrap e) ∷ []
 
+-- what follows a file's table, with its weight text, if the reader and the check accept the file
+abbrev pub unless_file_refused : List ℕ → (Variables → List Shape → List ℕ → Lines) → Lines
+unless_file_refused file next =
+    unless_refused (λ f. Table (Text f)) (read_from largest file).answer (λ c.
+    unless_refused Table (check_says c.variables (read_from largest file).nodes (read_from largest file).children) (λ _.
+    next c.variables (shapes (read_from largest file).children (read_from largest file).nodes) (drop c.weights file)))
+
+module _ {F : Type 0} (R : Semiring F) where
+  -- what follows the sheet that a weight text leaves, if it is accepted; figures are read by `reading`
+  abbrev pub unless_weights_refused : (reading : List ℕ → Option F) → Variables → List F → List ℕ → (List F → Lines) → Lines
+  unless_weights_refused reading vs sheet weights next =
+      unless_refused (λ f. f) (weights_say reading (roles_of vs) R.one sheet weights).answer (λ _.
+      next (weights_say reading (roles_of vs) R.one sheet weights).sheet)
+
 module _ {F : Type 0} (R : Semiring F) (text : F → List ℕ) (pick : Order F) where
   -- for a sheet and a work table of so many figures: bound and select, where nothing is held
   abbrev pub study_report : (work-size : ℕ) → Variables → List Shape → List F → Lines
@@ -39,22 +52,11 @@ module _ {F : Type 0} (R : Semiring F) (text : F → List ℕ) (pick : Order F) 
       unless_refused (λ f. f) (answered (bound_tests (roles_of vs) ss (length sheet) size unheld) (tt {0})) (λ _.
       report_of text (listed vs) (bound R (roles_of vs) sheet ss unheld) (select R pick (roles_of vs) ss sheet unheld))
 
-  -- figures are read by `reading`
   module _ (reading : List ℕ → Option F) where
-    -- for a sheet, a work table, and the weight text of a checked table
-    abbrev pub table_report : (work-size : ℕ) → Variables → List Shape → List F → List ℕ → Lines
-    table_report size vs ss sheet weights =
-        unless_refused (λ f. f) (weights_say reading (roles_of vs) R.one sheet weights).answer (λ _.
-        study_report size vs ss (weights_say reading (roles_of vs) R.one sheet weights).sheet)
-
-    -- for a table that was read, with its weight text
-    abbrev pub parts_report : Variables → List Node → List ℕ → List ℕ → Lines
-    parts_report vs ns cs weights =
-        unless_refused Table (check_says vs ns cs) (λ _.
-        table_report work_room vs (shapes cs ns) (replicate sheet_room R.zero) weights)
+    -- for a checked table, with its weight text
+    abbrev pub table_report : Variables → List Shape → List ℕ → Lines
+    table_report vs ss weights = unless_weights_refused R reading vs (replicate sheet_room R.zero) weights (study_report work_room vs ss)
 
     -- for a file
     abbrev pub plant_report : List ℕ → Lines
-    plant_report file =
-        unless_refused (λ f. Table (Text f)) (read_from largest file).answer (λ c.
-        parts_report c.variables (read_from largest file).nodes (read_from largest file).children (drop c.weights file))
+    plant_report file = unless_file_refused file table_report

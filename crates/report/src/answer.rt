@@ -28,7 +28,7 @@ pub fn report_text<K: Written>(
 }
 
 /// The line of the best selection: its figure, the openings, and the options that are on.
-fn selection_text<K: Written>(
+pub(crate) fn selection_text<K: Written>(
     heap: Global,
     variables: &Variables,
     found: &Found<K>,

@@ -1,6 +1,8 @@
-//! What a program prints: the bound and the best selection, or the refusal.
+//! What a program prints for a plant: the bound and the best selection, or the answers to a list of
+//! calls, or the refusal.
 #![tactic(auto)]
 
 pub mod answer;
+pub mod day;
 pub mod plant;
 pub mod stop;

@@ -1,9 +1,9 @@
 //! What a program prints for a plant's file.
 ghost use Rattle.std.specs.Prelude.{◌≡◌, replicate, IfOk, string_bytes};
 ghost use Rattle.text.specs.Format.{listed};
-ghost use Rattle.text.specs.Printed.{text_of, PlainNames};
+ghost use Rattle.text.specs.Printed.{Lines, text_of, PlainNames};
 ghost use Rattle.table.specs.Whole.{circuit};
-ghost use Rattle.report.specs.Plant.{sheet_room, work_room, table_report, plant_report};
+ghost use Rattle.report.specs.Plant.{table_report as table_report_of, plant_report};
 ghost use Rattle.report.specs.Stops.{Prints};
 
 use crate::answer::report_text;
@@ -32,7 +32,14 @@ pub fn plant_report<K: Written, O: BranchingOrder<K>>(
 ) -> Result<String, AllocError>
     ensures { IfOk result (λ s. string_bytes s ≡ text_of (plant_report K.ring K.text (O.picks order.now) K.reading file.now)) }
 {
-    file_report::<K, O>(heap, order, file).or_else(|stop| match stop {
+    printed(heap, file_report::<K, O>(heap, order, file))
+}
+
+/// The text that is to be printed, or the line of the refusal.
+pub(crate) fn printed(heap: Global, answer: Result<String, Stop>) -> Result<String, AllocError>
+    ensures { (ls : Lines) → Prints (Unit {0}) ls answer → IfOk result (λ s. string_bytes s ≡ text_of ls) }
+{
+    answer.or_else(|stop| match stop {
         Stop::Refused(fault) => RefusalLine(fault).to_string(heap),
         Stop::NoMemory(error) => Err(error),
     })
@@ -59,7 +66,7 @@ fn table_report<K: Written, O: BranchingOrder<K>>(
     table: &Table,
     weights: &[u8],
 ) -> Result<String, Stop>
-    ensures { Prints (PlainNames (listed table.now.variables)) (table_report K.ring K.text (O.picks order.now) K.reading work_room table.now.variables (circuit table.now) (replicate sheet_room K.ring.zero) weights.now) result }
+    ensures { Prints (PlainNames (listed table.now.variables)) (table_report_of K.ring K.text (O.picks order.now) K.reading table.now.variables (circuit table.now) weights.now) result }
 {
     let mut figures = zeros::<K>(heap, LARGEST_SHEET)?;
     let mut work = zeros::<K>(heap, WORK_ROOM)?;
@@ -74,7 +81,7 @@ fn table_report<K: Written, O: BranchingOrder<K>>(
 }
 
 /// A store of so many figures.
-fn zeros<K: Figure>(heap: Global, count: usize) -> Result<Vec<K>, AllocError>
+pub(crate) fn zeros<K: Figure>(heap: Global, count: usize) -> Result<Vec<K>, AllocError>
     ensures { IfOk result (λ v. v.items ≡ replicate count K.ring.zero) }
 {
     // Not `vec!`: it clones its item, and no law says that the clone of a figure is the figure.
