@@ -1,8 +1,8 @@
 -- What a filter keeps. Assumes nothing.
 use Rattle.std.proofs.Common.{◌≡◌, Bool, true, false, cond, List, [], ◌∷◌, refl, ◌∙◌, inl, inr}
+use Rattle.std.specs.List.{filter}
 use Rattle.std.proofs.lemmas.Bool.{cond-false}
 use Rattle.table.specs.Facts.{Among}
-use Rattle.passes.specs.Holding.{filter}
 
 module _ {A : Type 0} (p : A → Bool) where
   kept_step : (v x : A) (xs ys : List A) (b : Bool) → p x ≡ b → (Among v ys → Among v xs × (p v ≡ true)) → Among v (cond b (x ∷ ys) ys)

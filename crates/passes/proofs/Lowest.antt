@@ -1,9 +1,9 @@
 -- The least of some figures, one option after the other. Assumes nothing.
 use Rattle.std.proofs.Common.{◌≡◌, ℕ, ◌+◌, Bool, true, false, cond, ◌&&◌, List, [], ◌∷◌, ◌++◌, map, Some, None, Option, refl, ap, ◌∙◌, inl, inr}
+use Rattle.std.specs.List.{filter}
 use Rattle.kinds.specs.Semiring.{Semiring, greater}
 use Rattle.table.specs.Facts.{Among}
 use Rattle.table.specs.Sound.{Roles}
-use Rattle.passes.specs.Holding.{filter}
 use Rattle.passes.specs.Passes.{Part, least, sides}
 use Rattle.passes.specs.Rows.{side_place, sides_by, lower, lowered, lowest}
 

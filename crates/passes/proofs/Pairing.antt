@@ -1,5 +1,6 @@
 -- What the pair pass computes from the work table is a part, and the parts follow each other. Assumes nothing.
 use Rattle.std.proofs.Common.{◌≡◌, ℕ, zero, suc, ◌+◌, ◌*◌, ◌<◌, ◌≤◌, Bool, true, false, cond, ◌&&◌, List, [], ◌∷◌, ◌++◌, map, length, get_or, take, drop, None, sym, refl, ap, ◌∙◌, ap₂, append_assoc, add-mul, one-mul, arith}
+use Rattle.std.specs.List.{filter}
 use mathlib.Core.Path.{fun_ext}
 use Rattle.std.proofs.lemmas.List.{take_at, drop-drop, drop_at, length-take-le, take_all}
 use Rattle.std.proofs.lemmas.Bool.{cond-true, and_from}
@@ -10,7 +11,7 @@ use Rattle.table.specs.Sound.{Roles, is_option, none, options}
 use Rattle.table.proofs.Numbers.{listed_role}
 use Rattle.table.proofs.Truths.{about_at}
 use Rattle.table.proofs.Upward.{upward_more, upward_length}
-use Rattle.passes.specs.Holding.{Entries, entry, is_free, filter}
+use Rattle.passes.specs.Holding.{Entries, entry, is_free}
 use Rattle.passes.specs.Passes.{Part, no_part, value_at, plain, under, side_of, free_of, either_side, value_of, pair, pairs, sides, work}
 use Rattle.passes.specs.Steps.{value_in}
 use Rattle.passes.specs.Rows.{side_place, under_in, open_at, side_or_zero, sides_by, or_else, row_in, value_by, part_in}

@@ -1,5 +1,6 @@
 -- Holds, and what it is to keep them. Assumes nothing.
-use Rattle.std.specs.Prelude.{◌≡◌, ℕ, ◌-◌, Bool, true, false, cond, not, List, [], ◌∷◌, slice_index_or}
+use Rattle.std.specs.Prelude.{◌≡◌, ℕ, ◌-◌, Bool, true, false, not, List, slice_index_or}
+use Rattle.std.specs.List.{filter}
 use Rattle.table.specs.Circuit.{World}
 use Rattle.table.specs.Sound.{Roles, is_option, options}
 use Rattle.passes.specs.declared.holds.Entry.{Entry}
@@ -31,10 +32,6 @@ held_on Off = false
 
 abbrev pub selected : Entries → World
 selected h = λ v. held_on (entry h v)
-
-abbrev pub filter : {A : Type 0} → (A → Bool) → List A → List A
-filter p [] = []
-filter p (x ∷ xs) = cond (p x) (x ∷ filter p xs) (filter p xs)
 
 -- the free options, by rising number
 abbrev pub free : Roles → Entries → List ℕ

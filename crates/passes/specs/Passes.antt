@@ -1,10 +1,11 @@
 -- The counting, the plain and the pair pass: a value for every node, from those of its children. Assumes nothing.
 use Rattle.std.specs.Prelude.{ℕ, Bool, true, false, cond, ◌&&◌, List, [], ◌∷◌, ◌++◌, map, get_or, slice_index_or}
+use Rattle.std.specs.List.{filter}
 use Rattle.kinds.specs.Semiring.{Semiring, greater, lesser}
 use Rattle.table.specs.Circuit.{Shape, lit, all, fork, top, bottom, World, Vars, upward, same, mention, mentions, root}
 use Rattle.table.specs.Count.{weight}
 use Rattle.table.specs.Sound.{Roles, is_option, options, none}
-use Rattle.passes.specs.Holding.{Entries, entry, is_free, denies, filter, free}
+use Rattle.passes.specs.Holding.{Entries, entry, is_free, denies, free}
 
 -- a node's value, and its on and its off value for each option
 pub record Part (F : Type 0) : Type 0 where

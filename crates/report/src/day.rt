@@ -1,8 +1,7 @@
 //! What a program prints for a list of calls on a plant.
 ghost use Rattle.std.specs.Prelude.{◌≡◌, [], ◌∷◌, length, IfOk, string_bytes};
 ghost use Rattle.text.specs.Format.{listed};
-ghost use Rattle.text.specs.Printed.{text_of};
-ghost use Rattle.text.specs.Printed.{PlainNames};
+ghost use Rattle.text.specs.Printed.{text_of, PlainNames};
 ghost use Rattle.table.specs.Whole.{circuit, roles};
 ghost use Rattle.search.specs.Day.{new, answers};
 ghost use Rattle.report.specs.Answers.{answer_line, answer_lines, table_day as table_day_of, day_report, MakesDay};

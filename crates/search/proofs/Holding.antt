@@ -1,11 +1,12 @@
 -- Holding one free option: which options are free then, and which selections keep the holds. Assumes nothing.
 use Rattle.std.proofs.Common.{◌≡◌, ℕ, suc, ◌+◌, ◌-◌, ◌<◌, ◌≤◌, Bool, true, false, cond, eqb, List, [], ◌∷◌, length, set, sym, refl, ap, ◌∙◌, inl, inr, arith, length-set, get_or-set_other, get_or-set_same}
+use Rattle.std.specs.List.{filter}
 use Rattle.std.proofs.lemmas.Bool.{cases_Bool, cases_eq, cond_both, eqb-false, true≢false, false≢true, ne_eqb, cond-false}
 use Rattle.table.specs.Circuit.{World}
 use Rattle.table.specs.Facts.{Among}
 use Rattle.table.specs.Sound.{Roles, is_option, options}
 use Rattle.table.proofs.Numbers.{listed_role, role_listed, option_known}
-use Rattle.passes.specs.Holding.{Entries, entry, is_free, held_on, selected, filter, free, Keeps, Complete}
+use Rattle.passes.specs.Holding.{Entries, entry, is_free, held_on, selected, free, Keeps, Complete}
 use Rattle.passes.specs.Marks.{with_entry, held}
 use Rattle.passes.specs.declared.holds.Entry.{Entry}
 use Rattle.passes.specs.declared.holds.Entry.TheVariants.{Free, On, Off}

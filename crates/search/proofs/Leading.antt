@@ -8,7 +8,6 @@ use Rattle.std.proofs.lemmas.Bool.{and_from, and_parts, cond_both}
 use Rattle.std.proofs.Common.{◌≡◌, ℕ, ◌<◌, Bool, true, false, cond, List, [], ◌∷◌, length, get_or, Some, Option, sym, refl, ap, ◌∙◌, subst, not-suc-le-zero}
 use Rattle.std.specs.Option.{unwrap_or}
 use Rattle.kinds.specs.Semiring.{Semiring}
-use Rattle.passes.specs.Holding.{filter as kept_by}
 use Rattle.search.specs.declared.choice.Choice.{Choice}
 use Rattle.search.specs.Orders.{lowest, weaker, strongest_of, strongest_or, strongest, lean_at, told, placed, stronger}
 
@@ -17,7 +16,7 @@ module _ {F : Type 0} (R : Semiring F) (part : List F) where
   lowest_told [] h d = absurd (not-suc-le-zero h)
   lowest_told (c ∷ cs) h d = refl
 
-  mentioned_told : (cs : List Choice) → kept_by (λ l. l.mentioned) (told R part cs) ≡ told R part (filter (λ c. c.mentioned) cs)
+  mentioned_told : (cs : List Choice) → filter (λ l. l.mentioned) (told R part cs) ≡ told R part (filter (λ c. c.mentioned) cs)
   mentioned_told [] = refl
   mentioned_told (c ∷ cs) = ap (λ ls. cond c.mentioned (lean_at R part c ∷ ls) ls) (mentioned_told cs) ∙ by c.mentioned (filter (λ c. c.mentioned) cs)
     where

@@ -17,3 +17,4 @@ pub mod Openings
 pub mod Retreats
 pub mod Walks
 pub mod Weighings
+pub mod LastLines

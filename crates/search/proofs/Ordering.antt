@@ -1,12 +1,11 @@
 -- What number order and strongest lean answer. Assumes nothing.
 use Rattle.std.specs.Prelude.{◌≡◌, ℕ, ◌<◌, ◌≤◌, Bool, true, false, ltb, List, [], ◌∷◌, nat_lt, refl}
-use Rattle.std.specs.List.{list_all}
+use Rattle.std.specs.List.{list_all, filter}
 use Rattle.std.proofs.Common.{sym, ap, subst, inl, inr, arith}
 use Rattle.std.proofs.lemmas.Bool.{both_ways, and_parts, and_from, cond-true, cond_both, ltb-true}
 use Rattle.kinds.specs.Semiring.{Semiring, Laws}
 use Rattle.kinds.proofs.Ranks.{Upto, upto_refl, upto_other}
 use Rattle.table.specs.Facts.{Among}
-use Rattle.passes.specs.Holding.{filter}
 use Rattle.passes.proofs.Filters.{filter_empty}
 use Rattle.search.specs.Orders.{Lean, numbers, rising, lowest, LowestAnswers, weaker, strongest_of, strongest_or, strongest, Strongest, StrongestAnswers}
 use Rattle.search.specs.Lawful.{mentioned_of, strongest_kept}

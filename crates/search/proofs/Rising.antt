@@ -1,13 +1,13 @@
 -- Lists of rising numbers. Assumes nothing.
 use Rattle.std.specs.Prelude.{◌≡◌, ℕ, ◌+◌, ◌<◌, Bool, true, false, List, [], ◌∷◌, map, nat_lt, refl}
-use Rattle.std.specs.List.{list_all}
+use Rattle.std.specs.List.{list_all, filter}
 use Rattle.std.proofs.Common.{arith}
 use Rattle.std.proofs.lemmas.List.{map-id}
 use Rattle.std.proofs.lemmas.Bool.{and_from, and_parts, cond_both, lt-ltb, ltb-true}
 use Rattle.table.specs.Facts.{Among}
 use Rattle.table.specs.Sound.{Roles, from, options}
 use Rattle.table.proofs.Listed.{every_at}
-use Rattle.passes.specs.Holding.{Entries, entry, is_free, filter, free}
+use Rattle.passes.specs.Holding.{Entries, entry, is_free, free}
 use Rattle.search.specs.Orders.{rising}
 
 -- the first of rising numbers is below the others

@@ -1,10 +1,10 @@
 -- What an order is told of the free options. Assumes nothing.
-use Rattle.std.specs.List.{list_all}
+use Rattle.std.specs.List.{list_all, filter}
 use Rattle.std.proofs.Common.{◌≡◌, ℕ, suc, ◌+◌, ◌*◌, ◌<◌, ◌≤◌, Bool, true, false, cond, List, [], ◌∷◌, map, length, get_or, Some, refl, ap, ◌∙◌, ap₂, not-suc-le-zero, arith}
 use Rattle.std.proofs.lemmas.Bool.{and_from, lt-ltb}
 use Rattle.kinds.specs.Semiring.{Semiring}
 use Rattle.table.specs.Circuit.{Vars}
-use Rattle.passes.specs.Holding.{Entries, entry, is_free, filter}
+use Rattle.passes.specs.Holding.{Entries, entry, is_free}
 use Rattle.passes.specs.Passes.{Part}
 use Rattle.passes.specs.Rows.{side_place}
 use Rattle.search.specs.declared.choice.Choice.{Choice}

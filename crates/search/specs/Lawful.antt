@@ -1,10 +1,10 @@
 -- Number order and strongest lean are lawful; the trait of orders asks each for this proof. Assumes nothing.
 use Rattle.std.specs.Prelude.{◌≡◌, ℕ, true, List, [], ◌∷◌, map, refl}
+use Rattle.std.specs.List.{filter}
 use Rattle.std.proofs.Common.{sym, ap, subst, inl, inr}
 use Rattle.std.proofs.lemmas.Bool.{cond_both}
 use Rattle.kinds.specs.Semiring.{Semiring}
 use Rattle.table.specs.Facts.{Among}
-use Rattle.passes.specs.Holding.{filter}
 use Rattle.passes.proofs.Filters.{kept}
 use Rattle.search.specs.Orders.{Lean, numbers, Lawful, lowest, weaker, strongest_of, strongest_or, strongest}
 

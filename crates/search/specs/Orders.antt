@@ -1,9 +1,8 @@
 -- Branching orders: which free option to branch on next. Assumes nothing.
 use Rattle.std.specs.Prelude.{◌≡◌, ℕ, ◌+◌, ◌≤◌, Bool, true, false, cond, ◌&&◌, ltb, List, [], ◌∷◌, map, nat_lt, slice_index_or}
-use Rattle.std.specs.List.{list_all}
+use Rattle.std.specs.List.{list_all, filter}
 use Rattle.kinds.specs.Semiring.{Semiring, lesser}
 use Rattle.table.specs.Facts.{Among}
-use Rattle.passes.specs.Holding.{filter}
 use Rattle.search.specs.declared.choice.Choice.{Choice}
 
 -- what an order is told of a free option: whether the root mentions it, and the root's on and off value for it

@@ -1,7 +1,7 @@
 -- What a weight text says, or the first refusal that fits. Assumes nothing.
 --
 -- A text is a list of lines, a line a list of fields: the letter W, a chance's number, its on weight, its off weight.
-use Rattle.std.specs.Prelude.{ℕ, ◌+◌, ◌*◌, Bool, true, cond, ◌&&◌, List, [], ◌∷◌, length, replicate, Ok, Err, Option, Result, ◌==◌, slice_index_or}
+use Rattle.std.specs.Prelude.{◌≡◌, ℕ, ◌+◌, ◌*◌, Bool, true, cond, ◌&&◌, List, [], ◌∷◌, length, drop, replicate, Ok, Err, Option, Result, ◌==◌, slice_index_or}
 use Rattle.std.specs.List.{list_all}
 use Rattle.std.specs.Option.{ok_or}
 use Rattle.std.specs.Str.{bytes_eq}
@@ -11,7 +11,9 @@ use Rattle.text.specs.declared.fault.Reason.TheVariants as reason
 use Rattle.text.specs.Format.{Said, then, provided, number_field, overwritten}
 use Rattle.text.specs.Lines.{printable, lines, fields}
 use Rattle.table.specs.declared.fault.Fault.TheVariants as table_fault
-use Rattle.table.specs.Sound.{Roles}
+use Rattle.kinds.specs.Semiring.{Semiring}
+use Rattle.table.specs.Count.{weight}
+use Rattle.table.specs.Sound.{Roles, known}
 use Rattle.search.specs.declared.fault.Fault.{Fault}
 use Rattle.search.specs.declared.fault.Fault.TheVariants.{Table, ShortSheet, WeightLine}
 use Rattle.search.specs.declared.weighing.Weighing.{Weighing}
@@ -97,3 +99,26 @@ module _ {F : Type 0} (reading : List ℕ → Option F) (rs : Roles) where
   weights_say one sheet bytes =
       cond (short_sheet rs (length sheet)).0 (refused sheet ShortSheet)
       (weight_lines_say (with_ones one (length rs) sheet) 1 (lines bytes) (is_closed bytes))
+
+-- What an accepted text comes to.
+
+module _ {F : Type 0} (R : Semiring F) (reading : List ℕ → Option F) where
+  -- a weight of variable v after a line: the line's, if it is of v
+  abbrev pub by_line : (v : ℕ) → Bool → F → Said (Weighing F) → F
+  by_line v b x (Err r) = x
+  by_line v b x (Ok w) = cond (w.variable == v) (cond b w.on w.off) x
+
+  -- and after some lines: that of the last line of v, or what it was before them
+  abbrev pub by_lines : (v : ℕ) → Bool → F → List (List ℕ) → F
+  by_lines v b x [] = x
+  by_lines v b x (l ∷ ls) = by_lines v b (by_line v b x (form_says reading l)) ls
+
+  -- a variable's weights are those of its last line, or one without a line; behind the variables' places nothing changes
+  pub record Weighs (rs : Roles) (bytes : List ℕ) (before after : List F) : Type 0 where
+    pub weights : (v : ℕ) (b : Bool) → known (length rs) v ≡ true → weight R after v b ≡ by_lines v b R.one (lines bytes)
+    pub behind : drop (2 * length rs) after ≡ drop (2 * length rs) before
+
+  -- what weights_say makes of a text that it accepts
+  abbrev pub WeighsAccepted : Roles → List F → List ℕ → Type 0
+  WeighsAccepted rs sheet bytes =
+      (weights_say reading rs R.one sheet bytes).answer ≡ Ok tt → Weighs rs bytes sheet (weights_say reading rs R.one sheet bytes).sheet

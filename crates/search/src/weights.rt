@@ -3,7 +3,7 @@ ghost use Rattle.std.specs.Prelude.{◌≡◌, ◌<◌, ◌≤◌, length, repli
 ghost use Rattle.text.specs.Format.{overwritten};
 ghost use Rattle.text.specs.Lines.{fields};
 ghost use Rattle.table.specs.Whole.{roles};
-ghost use Rattle.search.specs.Weights.{field_at, is_weight_line, weight_field, form_says, weight_line_says, weights_say};
+ghost use Rattle.search.specs.Weights.{field_at, is_weight_line, weight_field, form_says, weight_line_says, weights_say, WeighsAccepted};
 
 use crate::fault::Fault;
 use crate::requirements::{require_chance, require_sheet};
@@ -72,6 +72,7 @@ pub fn read_weights<K: Written>(
 ) -> Result<(), Fault>
     ensures same { sheet.new.figures.ghost_name ≡ sheet.old.figures.ghost_name }
     ensures answer { result ≡ (weights_say K.reading (roles table.now) K.ring.one sheet.old.figures.now text.now).answer }
+    ensures weighs { WeighsAccepted K.ring K.reading (roles table.now) sheet.old.figures.now text.now }
     ensures sheet { sheet.new.figures.now ≡ (weights_say K.reading (roles table.now) K.ring.one sheet.old.figures.now text.now).sheet }
 {
     require_sheet(table, sheet.figures.len())?;

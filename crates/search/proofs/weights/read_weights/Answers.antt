@@ -16,6 +16,7 @@ use Rattle.table.specs.Whole.{roles}
 use Rattle.search.specs.declared.fault.Fault.TheVariants.{Table}
 use Rattle.search.specs.Study.{short_sheet}
 use Rattle.search.specs.Weights.{WeightReading, is_closed, weight_lines_say, weights_say}
+use Rattle.search.proofs.LastLines.{weighs_accepted}
 use Rattle.search.proofs.Testing.{refuses, passes}
 use Rattle.search.proofs.Weighings.{ends, ends_missing, ends_refused, goes_on, says_short, says_whole}
 use Rattle.search.proofs.weights.read_weights.Given as given
@@ -33,7 +34,7 @@ returns-in_err-require_sheet g c =
     let short = refuses (short_sheet rs (length sheet)) c.require_sheet.result _ c.require_sheet.ensures c.in_err-require_sheet.was in
     let p = err_from_is_err_and c.from_residual.result c.from_residual.ensures.1 in
     let e = says_short g.K.Written.reading rs g.K.Figure.ring.one sheet c.args.text.now (ltb-true _ _ short.0) in
-    record { same = refl; answer = p.1 ∙ ap Err (p.2 ∙ sym short.1) ∙ sym (ap (λ x. x.answer) e); sheet = sym (ap (λ x. x.sheet) e) }
+    record { same = refl; answer = p.1 ∙ ap Err (p.2 ∙ sym short.1) ∙ sym (ap (λ x. x.answer) e); sheet = sym (ap (λ x. x.sheet) e); weighs = weighs_accepted g.K.Figure.ring g.K.Written.reading (roles c.args.table.now) c.args.sheet.now.figures.now c.args.text.now }
 
 -- the sheet is long enough, and begins with ones; what is left to read says what the text says
 whole : (g : given.Over) (c : After-write_ones g) (told : WeightReading g.row.K.Denot) → weight_lines_say g.K.Written.reading (roles c.args.table.now) c.write_ones.new.figures 1 (lines c.args.text.now) (is_closed c.args.text.now) ≡ told
@@ -63,7 +64,7 @@ returns-in_err-content g c =
     let why = same_refusal _ _ (sym c.in_err-content.was ∙ c.ok_or.ensures.value ∙ ap (λ o. ok_or o (text_fault.Line reason.Line c.loop-rest.line)) missing) in
     let e = whole g at _ (ends_missing g.K.Written.reading (roles c.args.table.now) c.args.text.now c.write_ones.new.figures c.loop-rest.sheet.figures.now c.loop-rest.line c.loop-rest.rest.now c.loop-rest.invariant.0
     (omega (arith, eqb-false (length c.loop-rest.rest.now) 0 (sym c.loop-rest-test.ensures))) none) in
-    record { same = c.loop-rest.invariant.1; answer = p.1 ∙ ap Err (p.2 ∙ ap (λ f. Table (table_fault.Text f)) why) ∙ sym (ap (λ x. x.answer) e); sheet = sym (ap (λ x. x.sheet) e) }
+    record { same = c.loop-rest.invariant.1; answer = p.1 ∙ ap Err (p.2 ∙ ap (λ f. Table (table_fault.Text f)) why) ∙ sym (ap (λ x. x.answer) e); sheet = sym (ap (λ x. x.sheet) e); weighs = weighs_accepted g.K.Figure.ring g.K.Written.reading (roles c.args.table.now) c.args.sheet.now.figures.now c.args.text.now }
 
 pub returns-in_err-weighing : goal.returns-in_err-weighing
 returns-in_err-weighing g c =
@@ -71,7 +72,7 @@ returns-in_err-weighing g c =
     let p = err_from_is_err_and c.from_residual-in_err-weighing.result c.from_residual-in_err-weighing.ensures.1 in
     let e = whole g at _ (ends_refused g.K.Written.reading (roles c.args.table.now) c.args.text.now c.write_ones.new.figures c.loop-rest.sheet.figures.now c.loop-rest.line c.loop-rest.rest.now c.loop-rest.invariant.0
     _ (begins g (goal.at.returns-in_err-weighing g c).In_ok-content) _ (sym c.in_err-weighing.ensures)) in
-    record { same = c.loop-rest.invariant.1; answer = p.1 ∙ ap Err p.2 ∙ sym (ap (λ x. x.answer) e); sheet = sym (ap (λ x. x.sheet) e) }
+    record { same = c.loop-rest.invariant.1; answer = p.1 ∙ ap Err p.2 ∙ sym (ap (λ x. x.answer) e); sheet = sym (ap (λ x. x.sheet) e); weighs = weighs_accepted g.K.Figure.ring g.K.Written.reading (roles c.args.table.now) c.args.sheet.now.figures.now c.args.text.now }
 
 pub loop-rest-preserved : goal.loop-rest-preserved
 loop-rest-preserved g c = (
@@ -84,4 +85,4 @@ pub returns : goal.returns
 returns g c =
     let at = (goal.at.returns g c).After-write_ones in
     let e = whole g at _ (ends g.K.Written.reading (roles c.args.table.now) c.args.text.now c.write_ones.new.figures c.loop-rest.sheet.figures.now c.loop-rest.line c.loop-rest.rest.now c.loop-rest.invariant.0 (eqb-true _ _ (sym c.loop-rest-test.ensures))) in
-    record { same = c.loop-rest.invariant.1; answer = sym (ap (λ x. x.answer) e); sheet = sym (ap (λ x. x.sheet) e) }
+    record { same = c.loop-rest.invariant.1; answer = sym (ap (λ x. x.answer) e); sheet = sym (ap (λ x. x.sheet) e); weighs = weighs_accepted g.K.Figure.ring g.K.Written.reading (roles c.args.table.now) c.args.sheet.now.figures.now c.args.text.now }
