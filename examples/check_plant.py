@@ -279,6 +279,8 @@ def report(plant, mentions, weights_begin):
 
 
 def main():
+    if len(sys.argv) not in (2, 4):
+        sys.exit(__doc__)
     path, *stores = sys.argv[1:]
     node_store, child_store = [int(s) for s in stores] or [MOST_NODES, MOST_CHILDREN]
     with open(path, "rb") as file:

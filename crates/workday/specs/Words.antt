@@ -18,7 +18,7 @@ use Rattle.search.specs.declared.found.Selection.{Selection}
 
 -- why a line is refused
 abbrev pub reason_meaning : Reason → List ℕ
-reason_meaning reason.Line = codes "a line is missing, not closed, not due, or has not its fields"
+reason_meaning reason.Line = codes "a line is missing, not closed, not due, has not its fields, or has a byte that may not stand there"
 reason_meaning reason.Number = codes "a number, literal or weight has not its form"
 reason_meaning reason.Limit = codes "a count of the first line is outside its limits"
 reason_meaning reason.Store = codes "there are more nodes or children than there is room for"

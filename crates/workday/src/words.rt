@@ -21,7 +21,8 @@ fn reason_meaning(reason: Reason) -> &'static str
     ensures { result.now ≡ reason_meaning reason }
 {
     match reason {
-        Reason::Line => "a line is missing, not closed, not due, or has not its fields",
+        Reason::Line =>
+            "a line is missing, not closed, not due, has not its fields, or has a byte that may not stand there",
         Reason::Number => "a number, literal or weight has not its form",
         Reason::Limit => "a count of the first line is outside its limits",
         Reason::Store => "there are more nodes or children than there is room for",
