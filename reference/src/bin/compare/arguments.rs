@@ -13,6 +13,9 @@ usage: compare --quote PATH [--calls PATH] [--seed N] [--cases N] [--sort NAME [
 --show             prints the case's input
 ";
 
+/// How a command begins that runs the driver: in its folder, which the programs' paths start from.
+const DRIVER: &str = "(cd reference && cargo run --release --bin compare --";
+
 pub struct Arguments {
     pub quote: Option<PathBuf>,
     pub calls: Option<PathBuf>,
@@ -66,20 +69,20 @@ impl Arguments {
         self.sort.as_ref().is_none_or(|sort| sort == name)
     }
 
-    /// The command that tries a case again.
+    /// The command that tries a case again, from the top of the repository.
     pub fn to_repeat(&self, sort: &str, case: usize) -> String {
-        let mut command = String::from("cargo run --release --bin compare --");
+        let mut command = String::from(DRIVER);
         for (word, path) in [("--quote", &self.quote), ("--calls", &self.calls)] {
             if let Some(path) = path {
                 command += &format!(" {word} {}", path.display());
             }
         }
-        command + &self.case_words(sort, case)
+        command + &self.case_words(sort, case) + ")"
     }
 
     /// The command that prints a case's input.
     pub fn to_show(&self, sort: &str, case: usize) -> String {
-        String::from("cargo run --release --bin compare -- --show") + &self.case_words(sort, case)
+        format!("{DRIVER} --show{})", self.case_words(sort, case))
     }
 
     fn case_words(&self, sort: &str, case: usize) -> String {
