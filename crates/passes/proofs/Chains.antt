@@ -1,12 +1,10 @@
--- What `map` and `reduce` give in a chain, and what `fill_with` writes, by closures that compute a function. Assumes nothing.
-use Rattle.std.proofs.Common.{◌≡◌, ℕ, ◌<◌, List, [], ◌∷◌, length, get_or, map, replicate, Some, None, Option, sym, subst, ap₂, arith, refl, ap, ◌∙◌, suc}
-use Rattle.std.proofs.lemmas.Iterator.{YieldsList, items_from_drains, maps}
+-- What `reduce` gives in a chain, and what `fill_with` writes, by closures that compute a function. Assumes nothing.
+use Rattle.std.proofs.Common.{◌≡◌, List, [], ◌∷◌, length, replicate, Some, None, Option, sym, subst, ap₂, refl, ap, ◌∙◌}
+use Rattle.std.proofs.lemmas.Iterator.{YieldsList, items_from_drains}
 use Rattle.std.proofs.lemmas.List.{map-id}
 use Rattle.std.specs.Fn.{Called}
-use Rattle.std.specs.Iterator.{AlwaysYields, Drains, DrainsIf, FoldTurn, ReducesItems}
-use Rattle.std.specs.Iterator.Adapters.{map_source, map_callee}
+use Rattle.std.specs.Iterator.{Drains, DrainsIf, FoldTurn, ReducesItems}
 use Rattle.std.specs.List.{fold, reduce, FoldsTo}
-use Rattle.std.specs.declared.iter.Map.{Map}
 use denote.Param.Members.{Mut}
 
 -- what `reduce` gives by a closure f that computes h
@@ -25,24 +23,6 @@ module _ {A S G : Type 0} (steps : S → Option A → S → Type 0) (g : Mut G (
   reduce_given {s} all road None d = ap (reduce h) (items_from_drains [] (drained s [] d) road)
   reduce_given {s} all road (Some y) d =
       ap Some (folded d.1 (f, d.0) (d.2, y) refl d.4) ∙ ap (reduce h) (sym (map-id (d.0 ∷ d.1)) ∙ items_from_drains (d.0 ∷ d.1) (drained s (d.0 ∷ d.1) d.3) road)
-
--- what `map` gives by a closure f that computes h of the items with P
-module _ {S A B C G : Type 0} (steps : S → Option A → S → Type 0) (v : A → B) (g : Mut G (A × Unit {0}) C) (f : G) (h : B → C) (P : B → Type 0)
-    (gives : (x : A) (r : C) (q : G) → P (v x) → Called g f (x, tt) r q → (q ≡ f) × (r ≡ h (v x))) where
-  mapped : (ys : List B) → ((y : B) (k : ℕ) → k < length ys → y ≡ get_or ys k y → P y) → (s : Map S G) → AlwaysYields steps v (map_source s) ys → map_callee s ≡ f
-      → AlwaysYields (maps steps g) (λ r. r) s (map h ys)
-  mapped [] p s a c = λ r t m. a m.0 (map_source t) m.1
-  mapped (y ∷ ys) p s a c = (
-    λ t m. a.0 (map_source t) m.0,
-    λ r t m.
-        let next = a.1 m.0 (map_source t) m.1 in
-        let turn = gives m.0 r (map_callee t) (subst P (sym next.0) (p y 0 (omega arith) refl)) (subst (λ k. Called g k (m.0, tt) r (map_callee t)) c m.2) in
-        (turn.1 ∙ ap h next.0, mapped ys (λ z k l e. p z (suc k) (omega arith) e) t next.1 turn.0),
-  )
-
-  pub map_given : {s : Map S G} (ys : List B) → ((y : B) (k : ℕ) → k < length ys → y ≡ get_or ys k y → P y) → YieldsList steps v (map_source s) ys → map_callee s ≡ f
-      → YieldsList (maps steps g) (λ r. r) s (map h ys)
-  map_given {s} ys p road c = record { runs = mapped ys p s road.runs c }
 
 -- what was filled with one value
 pub filled : {S X : Type 0} (R : S → X → S → Type 0) (f : S) (y : X) (xs : List X) (last : S) → ((x : X) (q : S) → R f x q → (q ≡ f) × (x ≡ y)) → FoldsTo R f xs last → xs ≡ replicate (length xs) y

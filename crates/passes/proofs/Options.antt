@@ -39,7 +39,3 @@ among_there (v ∷ vs) (suc j) h = inr (among_there vs j (omega arith))
 -- each option is one
 pub option_there : (rs : Roles) (j : ℕ) → j < length (options rs) → Known rs (get_or (options rs) j 0) × (is_option rs (get_or (options rs) j 0) ≡ true)
 option_there rs j h = listed_role rs true (get_or (options rs) j 0) (among_there (options rs) j h)
-
-pub listed_some : (rs : Roles) (vs : List ℕ) → vs ≡ options rs → (j : ℕ) → j < length vs → 0 < get_or vs j 0
-listed_some rs vs e j h =
-    let short : j < length (options rs) = rw e at h in rw e (option_there rs j short).0.0

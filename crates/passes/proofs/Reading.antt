@@ -1,13 +1,13 @@
 -- What a sound table's nodes read: their records' children are in the child store, and their children's parts in the
 -- work places before their own. Assumes nothing.
-use Rattle.std.proofs.Common.{◌≡◌, ℕ, ◌+◌, ◌*◌, ◌<◌, ◌≤◌, Bool, true, false, ◌&&◌, leb, List, [], ◌∷◌, length, get_or, sym, refl, ap, ◌∙◌, inl, inr, mul-le-mul_right, add-mul, one-mul, arith, ◌==◌}
+use Rattle.std.proofs.Common.{◌≡◌, ℕ, ◌+◌, ◌*◌, ◌<◌, ◌≤◌, Bool, true, leb, List, [], ◌∷◌, length, get_or, sym, refl, ap, ◌∙◌, inl, inr, mul-le-mul_right, add-mul, one-mul, arith}
 use Rattle.std.proofs.lemmas.List.{get_or_past, get_or-map}
-use Rattle.std.proofs.lemmas.Bool.{le-leb, leb-true, lt-ltb, cond-false, and_from, and_parts, cases_lt, lt-leb, cases_Bool, eqb-true}
+use Rattle.std.proofs.lemmas.Bool.{le-leb, leb-true, lt-ltb, cond-false, and_from, and_parts, cases_lt, lt-leb}
 use Rattle.text.specs.declared.record.Form.{Form}
 use Rattle.text.specs.declared.record.Form.TheVariants.{Literal, And, Fork, True, False}
 use Rattle.text.specs.declared.record.Node.{Node}
 use Rattle.table.specs.declared.table.Table.{Table}
-use Rattle.table.specs.Circuit.{Vars, Shape, lit, all, fork, top, bottom}
+use Rattle.table.specs.Circuit.{Shape, lit, all, fork, top, bottom}
 use Rattle.table.specs.Facts.{Among, node, Known, Proper}
 use Rattle.table.specs.Sound.{Roles, children}
 use Rattle.table.specs.Nodes.{shape, shape_by, stretch, no_node}
@@ -16,9 +16,6 @@ use Rattle.table.proofs.Asked.{proved_sound}
 use Rattle.table.proofs.Decided.{decides_known}
 use Rattle.table.proofs.Listed.{decides_every}
 use Rattle.table.proofs.Sounds.{sound_proper}
-use Rattle.passes.specs.Holding.{Entries, entry, is_free}
-use Rattle.passes.specs.Marks.{entry_at}
-use Rattle.passes.specs.Rows.{open_at}
 use Rattle.passes.specs.Steps.{inside, readable, form_ranged, ranged}
 
 -- a node's part is before those of the nodes after it
@@ -81,15 +78,3 @@ module _ (t : Table) (i : ℕ) (h : i < length t.nodes.now) (n : Node) (is : n �
   pub node_readable : (stride size : ℕ) → i * stride ≡ size → readable (length (roles t)) size stride (shape t.children.now n) ≡ true
   node_readable stride size e =
       readable_by (roles t) i stride size e (shape t.children.now n) below (λ v b s. proper.known_variables.0 i v b (node_is ∙ s))
-
--- a number that no variable has is mentioned by no node, so it does not matter what its entry would be
-pub open_is : (h : Entries) (m : Vars) (v : ℕ) → m 0 ≡ false → is_free (entry_at h v) ≡ true → m v ≡ open_at h m v
-open_is h m v none free =
-    elim (cases_Bool (v == 0)) [
-      | inl here ↦ let z : v ≡ 0 = eqb-true v 0 here in rw z (none ∙ sym (ap (λ b. is_free (entry h 0) && b) none ∙ by (is_free (entry h 0))))
-      | inr there ↦ sym (ap (λ b. b && m v) (sym (ap is_free (cond-false _ _ _ there)) ∙ free))
-    ]
-  where
-    by : (b : Bool) → (b && false) ≡ false
-    by true = refl
-    by false = refl
