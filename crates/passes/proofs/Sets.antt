@@ -44,5 +44,5 @@ module _ {F : Type 0} (q : Query F) (i : ℕ) where
 pub free_options : {F : Type 0} (q : Query F) (all free : ℕ) → OptionSet (roles q.table.now) all → FreeVariables q.holds.now.entries free → FreeOptions q (bit_and all free)
 free_options q all free options variables v known =
     let inside = (decides_known (roles q.table.now) v).0 known in
-    has_bit_and v all free
-    ∙ ap₂ ◌&&◌ (options v known) (variables v (and_from _ _ (lt-ltb 0 v (omega (arith, inside.0))) (le-leb v 64 (let few = variables_few q.table.now in omega (arith, inside.1)))))
+    let one_of_64 = and_from _ _ (lt-ltb 0 v (omega (arith, inside.0))) (le-leb v 64 (let few = variables_few q.table.now in omega (arith, inside.1))) in
+    has_bit_and v all free ∙ ap₂ ◌&&◌ (options v one_of_64) (variables v one_of_64)

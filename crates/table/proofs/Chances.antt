@@ -1,11 +1,9 @@
 -- The set of the chances. Assumes nothing.
-use Rattle.std.proofs.Common.{◌≡◌, ℕ, ◌+◌, ◌*◌, ◌/◌, ◌%◌, ◌^◌, max, List, map, reverse, ◌<◌, ◌≤◌, Bool, true, false, cond, ◌&&◌, eqb, [], ◌∷◌, length, sym, refl, ap, ◌∙◌, ap₂, add-zero, pow-suc, arith, pow_mono}
-use lib.Bits.{bit_and, bit_or, or_step}
+use Rattle.std.proofs.Common.{◌≡◌, ℕ, ◌+◌, ◌*◌, List, map, reverse, ◌≤◌, Bool, true, false, cond, not, ◌&&◌, eqb, [], ◌∷◌, length, refl, ap, ◌∙◌, ap₂, arith}
+use lib.Bits.{bit_and}
 use Rattle.std.proofs.Math.Bool.{and-true}
-use Rattle.std.specs.Int.Bits.{or_zero_r}
 use Rattle.std.specs.List.{fold, list_all}
-use Rattle.std.proofs.lemmas.List.Sums.{fold-append}
-use Rattle.std.proofs.lemmas.List.{reverse-append, length-map, length-take}
+use Rattle.std.proofs.lemmas.List.{length-map, length-take}
 use Rattle.text.specs.declared.record.Variable.{Variable}
 use Rattle.text.specs.declared.record.Variables.{Variables}
 use Rattle.text.specs.Format.{is_option_role, listed}
@@ -14,13 +12,8 @@ use Rattle.table.specs.Sound.{Roles, from, alike}
 use Rattle.table.specs.Nodes.{roles_of}
 use Rattle.table.specs.Sets.{packed}
 use Rattle.table.specs.Masks.{chance_mask}
+use Rattle.table.proofs.Bits.{bits, set_step, fold_bits}
 use Rattle.table.proofs.Packs.{and_bit, same_bit}
-
-chance_below : (rs : Roles) → chance_mask rs < 2 ^ length rs
-unfolding chance_mask
-chance_below [] = omega arith
-chance_below (true ∷ rs) = let h = chance_below rs in omega (arith, pow-suc 2 (length rs))
-chance_below (false ∷ rs) = let h = chance_below rs in omega (arith, pow-suc 2 (length rs))
 
 pub roles_length : (vs : Variables) → length (roles_of vs) ≡ length (listed vs)
 roles_length vs = length-map (listed vs) (λ v. is_option_role v.role)
@@ -28,28 +21,22 @@ roles_length vs = length-map (listed vs) (λ v. is_option_role v.role)
 pub roles_few : (vs : Variables) → length (roles_of vs) ≤ 64
 roles_few vs = let e = roles_length vs in let f = vs.fits in let t : length (listed vs) ≤ vs.count = simp length-take (omega arith) in omega arith
 
--- the set with one variable more in front
-abbrev pub chance_step : ℕ → Variable → ℕ
-chance_step set v = bit_or ((set * 2 ^ 1) % 2 ^ 64) (cond (is_option_role v.role) 0 1)
+-- whether a variable is a chance
+abbrev pub is_chance : Variable → Bool
+is_chance v = not (is_option_role v.role)
 
-low_bit : (n : ℕ) (b : Bool) → bit_or (n * 2) (cond b 0 1) ≡ n * 2 + cond b 0 1
-low_bit n true = or_zero_r (n * 2) ∙ sym (add-zero (n * 2))
-low_bit n false =
-    let half : n * 2 / 2 ≡ n = omega arith in
-    let even : n * 2 % 2 ≡ 0 = omega arith in
-    or_step (n * 2) 1 ∙ ap₂ (λ x y. x * 2 + y) (ap (λ x. bit_or x 0) half ∙ or_zero_r n) (ap (λ x. max x 1) even)
+other_bit : (b : Bool) → ◌≡◌ {A = ℕ} (cond (not b) 1 0) (cond b 0 1)
+other_bit true = refl
+other_bit false = refl
 
--- the variables of a list, the last one first
-pub fold_chances : (vs : List Variable) → length vs ≤ 64 → fold chance_step 0 (reverse vs) ≡ chance_mask (map (λ v. is_option_role v.role) vs)
+chance_bits : (vs : List Variable) → bits (map is_chance vs) ≡ chance_mask (map (λ v. is_option_role v.role) vs)
 unfolding chance_mask
-fold_chances [] h = refl
-fold_chances (v ∷ vs) h =
-    let rs : Roles = map (λ (u : Variable). is_option_role u.role) vs in
-    let room : 2 ^ length rs ≤ 2 ^ 63 = pow_mono {i = length rs} {j = 63} (let e = length-map vs (λ (u : Variable). is_option_role u.role) in omega arith) in
-    let fits : chance_mask rs * 2 ^ 1 % 2 ^ 64 ≡ chance_mask rs * 2 = let b = chance_below rs in omega arith in
-    ap (fold chance_step 0) (reverse-append (v ∷ []) vs) ∙ fold-append chance_step 0 (reverse vs) (v ∷ [])
-    ∙ ap (λ n. chance_step n v) (fold_chances vs (omega arith))
-    ∙ ap (λ x. bit_or x (cond (is_option_role v.role) 0 1)) fits ∙ low_bit (chance_mask rs) (is_option_role v.role)
+chance_bits [] = refl
+chance_bits (v ∷ vs) = ap₂ (λ n k. n * 2 + k) (chance_bits vs) (other_bit (is_option_role v.role))
+
+-- the chances of a list, the last variable first
+pub fold_chances : (vs : List Variable) → length vs ≤ 64 → fold (set_step is_chance) 0 (reverse vs) ≡ chance_mask (map (λ v. is_option_role v.role) vs)
+fold_chances vs few = fold_bits is_chance vs few ∙ chance_bits vs
 
 same_off : (a b : Bool) → same (a && false) (b && false) ≡ true
 same_off true true = refl

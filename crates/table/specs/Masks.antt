@@ -19,9 +19,9 @@ bit v = 2 ^ (v - 1)
 abbrev pub has_bit : ℕ → ℕ → Bool
 has_bit v set = not ((bit_and set (bit v)) == 0)
 
--- the set of the options
+-- the set of the options, all 64 bits of it
 abbrev pub OptionSet : Roles → ℕ → Type 0
-OptionSet rs set = (v : ℕ) → known (length rs) v ≡ true → has_bit v set ≡ is_option rs v
+OptionSet rs set = (v : ℕ) → known 64 v ≡ true → has_bit v set ≡ is_option rs v
 
 -- the set of the chances
 unfoldable pub chance_mask : Roles → ℕ

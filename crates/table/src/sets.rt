@@ -1,5 +1,5 @@
 //! Sets of variables as numbers: bit v - 1 is variable v.
-ghost use Rattle.std.specs.Prelude.{◌≡◌, ◌<◌, ◌≤◌, true, cond, length, slice_index_or};
+ghost use Rattle.std.specs.Prelude.{◌≡◌, ◌<◌, ◌≤◌, true, not, length, slice_index_or};
 ghost use Rattle.std.specs.List.{list_all};
 ghost use Rattle.text.specs.Format.{is_option_role};
 ghost use Rattle.table.specs.Sound.{known, is_below};
@@ -42,18 +42,17 @@ pub fn contains(set: u64, variable: u16) -> bool
 pub(crate) fn chance_set(variables: &Variables) -> u64
     ensures { result ≡ chance_mask (roles_of variables.now) }
 {
-    variables
-        .as_slice()
-        .iter()
-        .rev()
-        .fold(0, |set, variable| set << 1 | chance_bit(variable.role))
+    variables.as_slice().iter().rev().fold(
+        0,
+        |set, variable| set << 1 | u64::from(is_chance(variable.role)),
+    )
 }
 
-/// 1 for a chance.
-fn chance_bit(role: Role) -> u64
-    ensures { result ≡ cond (is_option_role role) 0 1 }
+/// Whether a role is a chance's.
+fn is_chance(role: Role) -> bool
+    ensures { result ≡ not (is_option_role role) }
 {
-    u64::from(matches!(role, Role::Chance))
+    matches!(role, Role::Chance)
 }
 
 /// Whether each child's number is below the node's.
