@@ -1,4 +1,4 @@
--- One step of the reading of a script. Assumes nothing.
+-- One step of the reading of a script.
 use Rattle.std.proofs.Common.{◌≡◌, ℕ, ◌+◌, true, false, List, [], ◌∷◌, ◌++◌, length, drop, Some, None, Ok, Err, Option, sym, ap, ap₂, ◌∙◌}
 use Rattle.std.proofs.lemmas.Bool.{cond-true, cond-false}
 use Rattle.text.specs.Lines.{lines, BeginsWithLine}

@@ -1,4 +1,4 @@
--- What the program prints. Assumes nothing.
+-- What the program prints.
 use Rattle.std.specs.Prelude.{ℕ, ◌+◌, List, [], ◌∷◌, length, drop, Some, None, Ok, Err, codes, decimal, Option}
 use Rattle.kinds.specs.Semiring.{Semiring}
 use Rattle.kinds.specs.Tallies.{tallies}

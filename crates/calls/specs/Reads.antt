@@ -1,4 +1,4 @@
--- What an answer says of a script. Assumes nothing.
+-- What an answer says of a script.
 use Rattle.std.specs.Prelude.{◌≡◌, Ok, Err, Result}
 use Rattle.calls.specs.Script.{Read}
 use Rattle.calls.specs.declared.script.Script.{Script}

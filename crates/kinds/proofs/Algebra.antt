@@ -1,4 +1,4 @@
--- What the laws of a semiring give: the laws from the other side, and weighted sums. Assumes nothing.
+-- What the laws of a semiring give: the laws from the other side, and weighted sums.
 use Rattle.std.proofs.Common.{◌≡◌, sym, ap, ◌∙◌, ap₂}
 use Rattle.kinds.specs.Semiring.{Semiring, Laws}
 

@@ -1,4 +1,4 @@
--- The greater of two peaks by their derived order. Assumes nothing.
+-- The greater of two peaks by their derived order.
 use Rattle.std.proofs.Common.{◌≡◌, refl, arith}
 use Rattle.std.specs.Ordering.{ord_max, nat_cmp, is_lt}
 use Rattle.std.proofs.lemmas.Bool.{cond_both}

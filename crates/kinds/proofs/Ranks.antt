@@ -1,4 +1,4 @@
--- What the laws give of the ranking: sums, products, the greater and the lesser. Assumes nothing.
+-- What the laws give of the ranking: sums, products, the greater and the lesser.
 use Rattle.std.proofs.Common.{◌≡◌, Bool, true, false, cond, refl, ⊎_elim}
 use Rattle.std.proofs.lemmas.Bool.{both_ways, cond_both}
 use Rattle.kinds.specs.Semiring.{Semiring, Laws, greater, lesser}

@@ -1,4 +1,4 @@
--- The kind Peak: the highest load of any way. Assumes nothing.
+-- The kind Peak: the highest load of any way.
 use Rattle.std.specs.Prelude.{◌≡◌, ℕ, ◌+◌, ◌≤◌, min, max, Bool, true, false, ◌⊎◌, nat_le, refl}
 use Rattle.std.proofs.Common.{ap, inl, inr, arith}
 use mathlib.Core.HLevel.{is_prop→PathP}

@@ -1,4 +1,4 @@
--- Sums and products that stop at a cap, and the order of numbers. Assumes nothing.
+-- Sums and products that stop at a cap, and the order of numbers.
 use Rattle.std.specs.Prelude.{◌≡◌, ℕ, zero, suc, ◌+◌, ◌*◌, ◌≤◌, min, true, ◌⊎◌, nat_le}
 use Rattle.std.proofs.Common.{sym, ap, ◌∙◌, inl, inr, mul-zero, mul-suc, mul_comm, mul-add, mul_assoc, mul-le-mul_right, arith}
 use Rattle.std.proofs.lemmas.Bool.{cases_lt, le-leb}

@@ -1,5 +1,5 @@
--- A commutative semiring with a total preorder: what every kind of figure is. Assumes nothing.
-use Rattle.std.specs.Prelude.{◌≡◌, Bool, true, cond, ◌⊎◌}
+-- A commutative semiring with a total preorder: what every kind of figure is.
+use Rattle.std.specs.Prelude.{◌≡◌, Bool, true, ◌⊎◌, if◌then◌else◌}
 
 -- the operations of a kind of figure; `upto a b` is that a ranks no higher than b
 pub record Semiring (F : Type 0) : Type 0 where
@@ -27,8 +27,8 @@ pub record Laws {F : Type 0} (R : Semiring F) : Type 0 where
 
 -- the greater of two figures: b if a ranks below b, else a
 abbrev pub greater : {F : Type 0} → Semiring F → F → F → F
-greater R a b = cond (R.upto b a) a b
+greater R a b = if R.upto b a then a else b
 
 -- the lesser of two figures: b if b ranks below a, else a
 abbrev pub lesser : {F : Type 0} → Semiring F → F → F → F
-lesser R a b = cond (R.upto a b) a b
+lesser R a b = if R.upto a b then a else b

@@ -1,4 +1,4 @@
--- The kind Tally: counts of ways. Assumes nothing.
+-- The kind Tally: counts of ways.
 use Rattle.std.specs.Prelude.{◌≡◌, ℕ, ◌+◌, ◌*◌, ◌≤◌, min, nat_le}
 use Rattle.std.proofs.Common.{ap, mul_comm, arith}
 use mathlib.Core.HLevel.{is_prop→PathP}

@@ -1,5 +1,5 @@
--- Figures as text. Assumes nothing.
-use Rattle.std.specs.Prelude.{◌≡◌, ℕ, ◌^◌, ◌<◌, ◌≤◌, false, cond, List, [], ◌∷◌, Some, None, codes, decimal, Option, refl}
+-- Figures as text.
+use Rattle.std.specs.Prelude.{◌≡◌, ℕ, ◌^◌, ◌<◌, ◌≤◌, false, List, [], ◌∷◌, Some, None, codes, decimal, Option, refl, if◌then◌else◌}
 use Rattle.std.proofs.Common.{sym, ap, ◌∙◌, inl, inr, arith, lit<}
 use Rattle.std.specs.Option.{option_map}
 use Rattle.std.specs.Str.{bytes_eq}
@@ -36,7 +36,7 @@ load_text a = decimal a.watts
 
 -- a peak's text is `-`, or a load's
 abbrev pub peak_reading : List ℕ → Option Peak
-peak_reading s = cond (bytes_eq s (codes "-")) (Some Impossible) (option_map peak.Load (load_reading s))
+peak_reading s = if bytes_eq s (codes "-") then Some Impossible else option_map peak.Load (load_reading s)
 
 abbrev pub peak_text : Peak → List ℕ
 peak_text Impossible = codes "-"

@@ -1,4 +1,4 @@
--- The parts in an answer of the reader. Assumes nothing.
+-- The parts in an answer of the reader.
 use Rattle.std.proofs.Common.{◌≡◌, ℕ, List, length, take, drop, Ok, Result, subst}
 use Rattle.std.proofs.lemmas.List.{take_at}
 use Rattle.text.specs.Format.{overwritten}

@@ -1,4 +1,4 @@
--- The parts of a table, from its file. Assumes nothing.
+-- The parts of a table, from its file.
 use Rattle.std.specs.Prelude.{◌≡◌, ℕ, true, List, Ok, Err, Result}
 use Rattle.std.specs.List.{list_all}
 use Rattle.text.specs.Format.{Reading, file_says, listed, named_printable}

@@ -1,4 +1,4 @@
--- The figure of a selection that keeps the holds ranks no higher than the bound. Assumes nothing.
+-- The figure of a selection that keeps the holds ranks no higher than the bound.
 use Rattle.std.proofs.Common.{◌≡◌, ℕ, ◌-◌, Bool, true, false, cond, List, [], ◌∷◌, map, length, sym, refl, ap, ◌∙◌, subst, subst₂, inl, inr}
 use Rattle.std.proofs.lemmas.Bool.{eqb-true, false≢true, true≢false, cond_both, cond-true, cond-false}
 use Rattle.kinds.specs.Semiring.{Semiring, Laws, greater}

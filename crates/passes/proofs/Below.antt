@@ -1,5 +1,5 @@
 -- The bound ranks no higher than the plain bound, nor, where every option is held, than the figure; without free options
--- it is the plain bound. Assumes nothing.
+-- it is the plain bound.
 use Rattle.std.proofs.Common.{◌≡◌, ℕ, ◌-◌, Bool, true, false, cond, List, length, sym, refl, ap, ◌∙◌, subst, subst₂, inl, inr}
 use Rattle.std.proofs.lemmas.Bool.{eqb-true, false≢true, both_ways, cases_Bool, cond_both, or_left, or_right}
 use Rattle.kinds.specs.Semiring.{Semiring, Laws}

@@ -1,4 +1,4 @@
--- What `reduce` gives in a chain, and what `fill_with` writes, by closures that compute a function. Assumes nothing.
+-- What `reduce` gives in a chain, and what `fill_with` writes, by closures that compute a function.
 use Rattle.std.proofs.Common.{◌≡◌, List, [], ◌∷◌, length, replicate, Some, None, Option, sym, subst, ap₂, refl, ap, ◌∙◌}
 use Rattle.std.proofs.lemmas.Iterator.{YieldsList, items_from_drains}
 use Rattle.std.proofs.lemmas.List.{map-id}

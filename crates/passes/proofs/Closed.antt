@@ -1,4 +1,4 @@
--- The row of a node that mentions no free option. Assumes nothing.
+-- The row of a node that mentions no free option.
 use Rattle.std.proofs.Common.{◌≡◌, ℕ, suc, ◌+◌, ◌*◌, false, List, [], ◌∷◌, length, replicate, None, refl, ap, ap₂, ◌∙◌, inl, inr, arith}
 use Rattle.std.proofs.lemmas.Bool.{cond-false}
 use Rattle.kinds.specs.Semiring.{Semiring}
@@ -6,7 +6,7 @@ use Rattle.table.specs.Circuit.{Shape, mentions}
 use Rattle.table.specs.Facts.{Among, about}
 use Rattle.table.specs.Sound.{Roles}
 use Rattle.passes.specs.Holding.{Entries}
-use Rattle.passes.specs.Rows.{open_at, side_or_zero, sides_by, lowest}
+use Rattle.passes.specs.Rows.{open_at, side_or_zero, sides_by, least_in_row}
 
 module _ {F : Type 0} (R : Semiring F) (rs : Roles) (sheet : List F) (h : Entries) (ss : List Shape) (stride : ℕ) (done : List F) (i : ℕ) where
   pub row_closed : (j : ℕ) (vs : List ℕ) → ((v : ℕ) → Among v vs → open_at h (about ss i) v ≡ false)
@@ -18,9 +18,9 @@ module _ {F : Type 0} (R : Semiring F) (rs : Roles) (sheet : List F) (h : Entrie
       ∙ ap (λ r. R.zero ∷ R.zero ∷ r) (row_closed (j + 1) vs (λ u m. closed u (inr m)))
       ∙ ap (λ n. replicate n R.zero) more
 
-  pub lowest_closed : (row : List F) (vs : List ℕ) → ((v : ℕ) → Among v vs → open_at h (about ss i) v ≡ false) → lowest R (open_at h (about ss i)) row None vs ≡ None
-  lowest_closed [] vs closed = refl
-  lowest_closed (x ∷ []) vs closed = refl
-  lowest_closed (x ∷ y ∷ row) [] closed = refl
-  lowest_closed (x ∷ y ∷ row) (v ∷ vs) closed =
-      ap (λ best. lowest R (open_at h (about ss i)) row best vs) (cond-false _ _ _ (closed v (inl refl))) ∙ lowest_closed row vs (λ u m. closed u (inr m))
+  pub least_closed : (row : List F) (vs : List ℕ) → ((v : ℕ) → Among v vs → open_at h (about ss i) v ≡ false) → least_in_row R (open_at h (about ss i)) row None vs ≡ None
+  least_closed [] vs closed = refl
+  least_closed (x ∷ []) vs closed = refl
+  least_closed (x ∷ y ∷ row) [] closed = refl
+  least_closed (x ∷ y ∷ row) (v ∷ vs) closed =
+      ap (λ best. least_in_row R (open_at h (about ss i)) row best vs) (cond-false _ _ _ (closed v (inl refl))) ∙ least_closed row vs (λ u m. closed u (inr m))

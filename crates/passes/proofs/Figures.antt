@@ -1,11 +1,11 @@
--- The counting pass gives the selection's figure: the chances are set one after the other. Assumes nothing.
+-- The counting pass gives the selection's figure: the chances are set one after the other.
 use Rattle.std.specs.List.{AllByRecursion, list_all, list_any}
 use Rattle.std.proofs.Common.{◌≡◌, ℕ, ◌-◌, Bool, true, false, cond, not, ◌&&◌, ◌||◌, eqb, List, [], ◌∷◌, map, length, sym, refl, ap, ◌∙◌, subst, ap₂, inl, inr}
 use Rattle.std.proofs.lemmas.Bool.{both_ways, cases_Bool, cases_eq, cond-true, cond-false, eq-eqb, eqb-true, ne_eqb, or_from}
 use Rattle.kinds.specs.Semiring.{Semiring, Laws}
 use Rattle.kinds.proofs.Algebra.{sum_zero, product_one, product_zero}
 use Rattle.table.specs.Circuit.{Shape, lit, all, fork, top, bottom, World, upward, same, truth, satisfied}
-use Rattle.table.specs.Count.{put, over, weight, scenario_weight, figure}
+use Rattle.table.specs.Count.{put, sum_over, weight, scenario_weight, figure}
 use Rattle.table.specs.Facts.{Among, node, true_at, Known, Proper}
 use Rattle.table.specs.Sound.{Roles, is_option, chances, sound, verdict}
 use Rattle.table.proofs.Listed.{some_at, some_among}
@@ -51,11 +51,11 @@ module _ {F : Type 0} {R : Semiring F} (laws : Laws R) where
 
   -- a factor goes into a sum over settings that leave v as it is
   over_scaled : (a : F) (v : ℕ) (vs : List ℕ) → AllByRecursion (λ x. eqb v x ≡ false) vs → (f g : World → F) (w : World)
-      → ((u : World) → u v ≡ w v → R.product a (f u) ≡ g u) → R.product a (over R vs w f) ≡ over R vs w g
-  unfolding over
+      → ((u : World) → u v ≡ w v → R.product a (f u) ≡ g u) → R.product a (sum_over R vs w f) ≡ sum_over R vs w g
+  unfolding sum_over
   over_scaled a v [] apart f g w h = h w refl
   over_scaled a v (x ∷ xs) apart f g w h =
-      let more : (b : Bool) → R.product a (over R xs (put w x b) f) ≡ over R xs (put w x b) g
+      let more : (b : Bool) → R.product a (sum_over R xs (put w x b) f) ≡ sum_over R xs (put w x b) g
       = λ b. over_scaled a v xs apart.1 f g (put w x b) (λ u e. h u (e ∙ cond-false (eqb v x) b (w v) apart.0)) in
       laws.distributes a _ _ ∙ ap₂ R.sum (more true) (more false)
 
@@ -108,8 +108,8 @@ module _ {F : Type 0} (R : Semiring F) (laws : Laws R) (sheet : List F) where
         at bottom is = refl
 
     root_figure : (vs : List ℕ) → Distinct vs → ((v : ℕ) → Among v vs → Among v (chances rs)) → (w : World) (x : ℕ → F)
-        → Solves R ss (leaf vs w) x → x (length ss - 1) ≡ over R vs w (weighed ss vs)
-    unfolding over scenario_weight
+        → Solves R ss (leaf vs w) x → x (length ss - 1) ≡ sum_over R vs w (weighed ss vs)
+    unfolding sum_over scenario_weight
     root_figure [] distinct among w x x-at =
         one_solution (leaf [] w) x (λ i. indicator R (true_at ss w i)) x-at (truth_solves w) (length ss - 1)
         ∙ ap (indicator R) (sym (root_last (truth w) false ss))
@@ -119,7 +119,7 @@ module _ {F : Type 0} (R : Semiring F) (laws : Laws R) (sheet : List F) where
         let split = split_nodes laws (weight R sheet v) rs ss proper v chance x y (leaf (v ∷ vs) w) (λ b. leaf vs (put w v b))
         (leaf_split v vs distinct w) x-at (λ b. total_solves (leaf vs (put w v b))) (length ss - 1) in
         let mentioned = subst (λ t. Split R (weight R sheet v) t (x (length ss - 1)) (λ b. y b (length ss - 1))) (proper.total v chance) split in
-        let side : (b : Bool) → R.product (weight R sheet v b) (y b (length ss - 1)) ≡ over R vs (put w v b) (weighed ss (v ∷ vs))
+        let side : (b : Bool) → R.product (weight R sheet v b) (y b (length ss - 1)) ≡ sum_over R vs (put w v b) (weighed ss (v ∷ vs))
         = λ b. ap (R.product (weight R sheet v b)) (root_figure vs distinct.1 (λ u m. among u (inr m)) (put w v b) (y b) (total_solves (leaf vs (put w v b))))
         ∙ over_scaled laws (weight R sheet v b) v vs distinct.0 (weighed ss vs) (weighed ss (v ∷ vs)) (put w v b)
         (λ u e. weighed_more v vs b u (e ∙ cond-true _ b (w v) (eq-eqb v v refl)) (satisfied ss u)) in

@@ -1,11 +1,11 @@
--- The least of some figures, one option after the other. Assumes nothing.
+-- The least of some figures, one option after the other.
 use Rattle.std.proofs.Common.{◌≡◌, ℕ, ◌+◌, Bool, true, false, cond, ◌&&◌, List, [], ◌∷◌, ◌++◌, map, Some, None, Option, refl, ap, ◌∙◌, inl, inr}
 use Rattle.std.specs.List.{filter}
 use Rattle.kinds.specs.Semiring.{Semiring, greater}
 use Rattle.table.specs.Facts.{Among}
 use Rattle.table.specs.Sound.{Roles}
 use Rattle.passes.specs.Passes.{Part, least, sides}
-use Rattle.passes.specs.Rows.{side_place, sides_by, lower, lowered, lowest}
+use Rattle.passes.specs.Rows.{side_place, sides_by, lower, lowered, least_in_row}
 
 pub filter_both : (q r : ℕ → Bool) (vs : List ℕ) → filter q (filter r vs) ≡ filter (λ v. r v && q v) vs
 filter_both q r [] = refl
@@ -27,19 +27,19 @@ module _ {F : Type 0} (R : Semiring F) where
   least_step (Some y) x xs = refl
 
   module _ (rs : Roles) (sheet : List F) (part : Part F) (p : ℕ → Bool) (e : ℕ → F) where
-    pub lowest_is : (best : Option F) (vs : List ℕ) → ((v : ℕ) → Among v vs → p v ≡ true → greater R (part.side true v) (part.side false v) ≡ e v)
-        → lowest R p (sides R rs sheet part vs) best vs ≡ least_with best (map e (filter p vs))
-    lowest_is None [] h = refl
-    lowest_is (Some y) [] h = refl
-    lowest_is best (v ∷ vs) h = by (λ o. lowest_is o vs (λ u m. h u (inr m))) (p v) refl
+    pub least_is : (best : Option F) (vs : List ℕ) → ((v : ℕ) → Among v vs → p v ≡ true → greater R (part.side true v) (part.side false v) ≡ e v)
+        → least_in_row R p (sides R rs sheet part vs) best vs ≡ least_with best (map e (filter p vs))
+    least_is None [] h = refl
+    least_is (Some y) [] h = refl
+    least_is best (v ∷ vs) h = by (λ o. least_is o vs (λ u m. h u (inr m))) (p v) refl
       where
-        by : ((o : Option F) → lowest R p (sides R rs sheet part vs) o vs ≡ least_with o (map e (filter p vs))) → (b : Bool) → p v ≡ b
-            → lowest R p (sides R rs sheet part vs) (cond b (Some (lower R best (greater R (part.side true v) (part.side false v)))) best) vs ≡ least_with best (map e (cond b (v ∷ filter p vs) (filter p vs)))
+        by : ((o : Option F) → least_in_row R p (sides R rs sheet part vs) o vs ≡ least_with o (map e (filter p vs))) → (b : Bool) → p v ≡ b
+            → least_in_row R p (sides R rs sheet part vs) (cond b (Some (lower R best (greater R (part.side true v) (part.side false v)))) best) vs ≡ least_with best (map e (cond b (v ∷ filter p vs) (filter p vs)))
         by rest true t = rest _ ∙ least_step best _ (map e (filter p vs)) ∙ ap (λ x. least_with best (x ∷ map e (filter p vs))) (h v (inl refl) t)
         by rest false t = rest best
 
   -- one option more
-  pub lowest_push : (p : ℕ → Bool) (s : Bool → ℕ → ℕ → F) (j : ℕ) (vs : List ℕ) (v : ℕ) (x y : F) (best : Option F)
-      → lowest R p (sides_by s j vs ++ (x ∷ y ∷ [])) best (vs ++ (v ∷ [])) ≡ lowered R (lowest R p (sides_by s j vs) best vs) (p v) x y
-  lowest_push p s j [] v x y best = refl
-  lowest_push p s j (u ∷ vs) v x y best = lowest_push p s (j + 1) vs v x y (lowered R best (p u) (s true u (side_place j true)) (s false u (side_place j false)))
+  pub least_push : (p : ℕ → Bool) (s : Bool → ℕ → ℕ → F) (j : ℕ) (vs : List ℕ) (v : ℕ) (x y : F) (best : Option F)
+      → least_in_row R p (sides_by s j vs ++ (x ∷ y ∷ [])) best (vs ++ (v ∷ [])) ≡ lowered R (least_in_row R p (sides_by s j vs) best vs) (p v) x y
+  least_push p s j [] v x y best = refl
+  least_push p s j (u ∷ vs) v x y best = least_push p s (j + 1) vs v x y (lowered R best (p u) (s true u (side_place j true)) (s false u (side_place j false)))

@@ -1,4 +1,4 @@
--- What is kept from the children of a node to the node, and the steps of the passes as ways. Assumes nothing.
+-- What is kept from the children of a node to the node, and the steps of the passes as ways.
 use Rattle.std.proofs.Common.{◌≡◌, ℕ, Bool, List, [], ◌∷◌, map, get_or, sym, refl, ◌∙◌, ap₂, inl, inr}
 use Rattle.kinds.specs.Semiring.{Semiring, Laws}
 use Rattle.kinds.proofs.Ranks.{Upto, upto_refl, product_monotone}

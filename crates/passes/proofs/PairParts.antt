@@ -1,4 +1,4 @@
--- A node's part in the pair pass, from those of its children. Assumes nothing.
+-- A node's part in the pair pass, from those of its children.
 use Rattle.std.proofs.Common.{◌≡◌, ℕ, ◌-◌, Bool, true, false, cond, ◌&&◌, List, [], ◌∷◌, map, length, get_or, sym, refl, ap, ◌∙◌, subst, inl, inr}
 use lib.ListN.{get_or-map}
 use Rattle.std.specs.List.{AllByRecursion}

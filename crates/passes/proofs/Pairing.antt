@@ -1,4 +1,4 @@
--- What the pair pass computes from the work table is a part, and the parts follow each other. Assumes nothing.
+-- What the pair pass computes from the work table is a part, and the parts follow each other.
 use Rattle.std.proofs.Common.{◌≡◌, ℕ, zero, suc, ◌+◌, ◌*◌, ◌<◌, ◌≤◌, Bool, true, false, cond, ◌&&◌, List, [], ◌∷◌, ◌++◌, map, length, get_or, take, drop, None, sym, refl, ap, ◌∙◌, ap₂, append_assoc, add-mul, one-mul, arith}
 use Rattle.std.specs.List.{filter}
 use mathlib.Core.Path.{fun_ext}
@@ -17,7 +17,7 @@ use Rattle.passes.specs.Steps.{value_in}
 use Rattle.passes.specs.Rows.{side_place, under_in, open_at, side_or_zero, sides_by, or_else, row_in, value_by, part_in}
 use Rattle.passes.specs.Ways.{made, plain_way, side_way}
 use Rattle.passes.proofs.Made.{plain_made, side_made}
-use Rattle.passes.proofs.Lowest.{filter_both, least_with, lowest_is}
+use Rattle.passes.proofs.Lowest.{filter_both, least_with, least_is}
 use Rattle.passes.proofs.Options.{option_there}
 use Rattle.passes.proofs.Rowing.{laid, work_length, value_there, side_there, work_push}
 
@@ -94,7 +94,7 @@ module _ {F : Type 0} (R : Semiring F) (rs : Roles) (sheet : List F) (h : Entrie
     value_is : value_by R rs sheet h ss stride W row i (options rs) ≡ part.value
     value_is =
         ap (λ o. or_else o (made R (plain_way R rs sheet h) (value_in R stride W) (node ss i)))
-        (lowest_is R rs sheet part (open_at h (about ss i)) (either_side R rs sheet (mentions ss) h ps (node ss i)) None (options rs) either_there)
+        (least_is R rs sheet part (open_at h (about ss i)) (either_side R rs sheet (mentions ss) h ps (node ss i)) None (options rs) either_there)
         ∙ value_by_list (filter (open_at h (about ss i)) (options rs))
         ∙ ap (value_of R rs sheet (mentions ss) h ps (node ss i)) free_are
 

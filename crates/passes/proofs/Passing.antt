@@ -1,4 +1,4 @@
--- A pass that writes one place for each node. Assumes nothing.
+-- A pass that writes one place for each node.
 use Rattle.std.proofs.Common.{◌≡◌, ℕ, ◌+◌, ◌<◌, ◌≤◌, List, [], ◌∷◌, ◌++◌, length, get_or, take, drop, set, sym, ap, ◌∙◌, ap₂, append_assoc, arith}
 use Rattle.std.proofs.lemmas.List.{length-take-le, take_all, take_at, drop_more, set_at}
 use Rattle.table.specs.Circuit.{Shape, upward}

@@ -1,5 +1,5 @@
 -- What a sound table's nodes read: their records' children are in the child store, and their children's parts in the
--- work places before their own. Assumes nothing.
+-- work places before their own.
 use Rattle.std.proofs.Common.{◌≡◌, ℕ, ◌+◌, ◌*◌, ◌<◌, ◌≤◌, Bool, true, leb, List, [], ◌∷◌, length, get_or, sym, refl, ap, ◌∙◌, inl, inr, mul-le-mul_right, add-mul, one-mul, arith}
 use Rattle.std.proofs.lemmas.List.{get_or_past, get_or-map}
 use Rattle.std.proofs.lemmas.Bool.{le-leb, leb-true, lt-ltb, cond-false, and_from, and_parts, cases_lt, lt-leb}

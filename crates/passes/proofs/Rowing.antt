@@ -1,11 +1,11 @@
--- Parts as they lie in the work table, and a row that is written two places at a time. Assumes nothing.
+-- Parts as they lie in the work table, and a row that is written two places at a time.
 use Rattle.std.proofs.Common.{◌≡◌, ℕ, zero, suc, ◌+◌, ◌*◌, ◌<◌, Bool, true, false, cond, List, [], ◌∷◌, ◌++◌, length, get_or, None, Option, take, drop, set, sym, refl, ap, ◌∙◌, ap₂, append_assoc, not-suc-le-zero, suc-mul, zero-mul, arith}
 use Rattle.std.proofs.lemmas.List.{length-append, length-set, take_more_set, length-take-le, take_more, get_or-append-add, get_or_append_left, append-nil}
 use Rattle.kinds.specs.Semiring.{Semiring}
 use Rattle.table.specs.Sound.{Roles, options}
 use Rattle.passes.specs.Passes.{Part, no_part, sides, work}
-use Rattle.passes.specs.Rows.{side_place, sides_by, lowered, lowest}
-use Rattle.passes.proofs.Lowest.{lowest_push}
+use Rattle.passes.specs.Rows.{side_place, sides_by, lowered, least_in_row}
+use Rattle.passes.proofs.Lowest.{least_push}
 
 module _ {F : Type 0} (s : Bool → ℕ → ℕ → F) where
   pub sides_by_length : (j : ℕ) (vs : List ℕ) → length (sides_by s j vs) ≡ 2 * length vs
@@ -43,7 +43,7 @@ module _ {F : Type 0} (s : Bool → ℕ → ℕ → F) (vs : List ℕ) (j : ℕ)
 module _ {F : Type 0} (R : Semiring F) (s : Bool → ℕ → ℕ → F) (p : ℕ → Bool) (vs : List ℕ) where
   pub record Rowed (part : List F) (least : Option F) (j : ℕ) : Type 0 where
     pub row : take (2 * j) (drop 1 part) ≡ sides_by s 0 (take j vs)
-    pub lowest_is : least ≡ lowest R p (sides_by s 0 (take j vs)) None (take j vs)
+    pub least_is : least ≡ least_in_row R p (sides_by s 0 (take j vs)) None (take j vs)
 
   pub rowed_more : (part : List F) (least next : Option F) (j : ℕ) (a b : F) → j < length vs → length part ≡ 2 * length vs + 1 → Rowed part least j
       → a ≡ s true (get_or vs j 0) (side_place j true) → b ≡ s false (get_or vs j 0) (2 * j + 1 + 1) → next ≡ lowered R least (p (get_or vs j 0)) a b
@@ -55,11 +55,11 @@ module _ {F : Type 0} (R : Semiring F) (s : Bool → ℕ → ℕ → F) (p : ℕ
       let count : 0 + length (take j vs) ≡ j = let q = length-take-le j vs (omega arith) in omega arith in
       record {
         row = ap (λ n. take (2 * (j + 1)) (drop 1 (set (set part (2 * j + 1) a) n b))) behind ∙ row_more s vs j l part a b long kept.row one off;
-        lowest_is =
-            e ∙ ap₂ (λ best x. lowered R best (p v) x b) kept.lowest_is one ∙ ap (lowered R (lowest R p (sides_by s 0 (take j vs)) None (take j vs)) (p v) (s true v (side_place j true))) off
-            ∙ sym (lowest_push R p s 0 (take j vs) v (s true v (side_place j true)) (s false v (side_place j false)) None)
-            ∙ ap (λ row. lowest R p row None (take j vs ++ (v ∷ []))) (sym (sides_by_push s 0 j (take j vs) v count))
-            ∙ ap (λ us. lowest R p (sides_by s 0 us) None us) (sym (take_more vs j 0 l));
+        least_is =
+            e ∙ ap₂ (λ best x. lowered R best (p v) x b) kept.least_is one ∙ ap (lowered R (least_in_row R p (sides_by s 0 (take j vs)) None (take j vs)) (p v) (s true v (side_place j true))) off
+            ∙ sym (least_push R p s 0 (take j vs) v (s true v (side_place j true)) (s false v (side_place j false)) None)
+            ∙ ap (λ row. least_in_row R p row None (take j vs ++ (v ∷ []))) (sym (sides_by_push s 0 j (take j vs) v count))
+            ∙ ap (λ us. least_in_row R p (sides_by s 0 us) None us) (sym (take_more vs j 0 l));
       }
 
 module _ {F : Type 0} (R : Semiring F) (rs : Roles) (sheet : List F) where

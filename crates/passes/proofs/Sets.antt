@@ -1,4 +1,4 @@
--- The set of the free options that a node mentions. Assumes nothing.
+-- The set of the free options that a node mentions.
 use Rattle.std.proofs.Common.{◌≡◌, ℕ, ◌<◌, Bool, true, false, ◌&&◌, length, get_or, sym, refl, ap, ap₂, ◌∙◌, arith}
 use lib.Bits.{bit_and}
 use Rattle.std.proofs.lemmas.Bool.{and_from, lt-ltb, le-leb}

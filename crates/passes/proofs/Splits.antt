@@ -1,5 +1,4 @@
 -- A sum over one variable: where each literal's value is split over the variable's two settings, so is each node's.
--- Assumes nothing.
 use Rattle.std.proofs.Common.{◌≡◌, ℕ, suc, ◌<◌, Bool, true, false, ◌||◌, eqb, List, [], ◌∷◌, map, length, get_or, sym, refl, ap, ◌∙◌, subst, ap₂, inl, inr, true≢false, arith}
 use Rattle.std.specs.List.{AllByRecursion, list_any}
 use Rattle.kinds.specs.Semiring.{Semiring, Laws}

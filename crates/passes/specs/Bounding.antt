@@ -1,4 +1,4 @@
--- What the passes are for: the weighted model count, and bounds on it. Assumes nothing.
+-- What the passes are for: the weighted model count, and bounds on it.
 use Rattle.std.specs.Prelude.{◌≡◌, ℕ, true, false, List, get_or, slice_index_or}
 use Rattle.kinds.specs.Semiring.{Semiring}
 use Rattle.table.specs.Circuit.{Shape, World, root}

@@ -1,4 +1,4 @@
--- Holds, and what it is to keep them. Assumes nothing.
+-- Holds, and what it is to keep them.
 use Rattle.std.specs.Prelude.{◌≡◌, ℕ, ◌-◌, Bool, true, false, not, List, slice_index_or}
 use Rattle.std.specs.List.{filter}
 use Rattle.table.specs.Circuit.{World}

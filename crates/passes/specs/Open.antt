@@ -1,4 +1,4 @@
--- Sets of options as numbers: bit v - 1 stands for variable v. Assumes nothing.
+-- Sets of options as numbers: bit v - 1 stands for variable v.
 use Rattle.std.specs.Prelude.{◌≡◌, ℕ, true, ◌&&◌, length}
 use Rattle.table.specs.Facts.{about}
 use Rattle.table.specs.Masks.{has_bit}

@@ -1,5 +1,5 @@
--- The counting, the plain and the pair pass: a value for every node, from those of its children. Assumes nothing.
-use Rattle.std.specs.Prelude.{ℕ, Bool, true, false, cond, ◌&&◌, List, [], ◌∷◌, ◌++◌, map, get_or, slice_index_or}
+-- The counting, the plain and the pair pass: a value for every node, from those of its children.
+use Rattle.std.specs.Prelude.{ℕ, Bool, true, false, ◌&&◌, List, [], ◌∷◌, ◌++◌, map, get_or, slice_index_or, if◌then◌else◌}
 use Rattle.std.specs.List.{filter}
 use Rattle.kinds.specs.Semiring.{Semiring, greater, lesser}
 use Rattle.table.specs.Circuit.{Shape, lit, all, fork, top, bottom, World, Vars, upward, same, mention, mentions, root}
@@ -34,7 +34,7 @@ module _ {F : Type 0} (R : Semiring F) (rs : Roles) (sheet : List F) where
   -- the counting pass, for a selection: a chance literal has its weight, an option literal is one if it is selected
   -- so, an and multiplies, a fork adds
   abbrev pub count : World → List F → Shape → F
-  count w done (lit v on) = cond (is_option rs v) (cond (same (w v) on) R.one R.zero) (weight R sheet v on)
+  count w done (lit v on) = if is_option rs v then (if same (w v) on then R.one else R.zero) else weight R sheet v on
   count w done (all cs) = times R (map (value_at R done) cs)
   count w done (fork v a b) = R.sum (value_at R done a) (value_at R done b)
   count w done top = R.one
@@ -46,10 +46,10 @@ module _ {F : Type 0} (R : Semiring F) (rs : Roles) (sheet : List F) where
   -- the plain pass, for holds: an option literal is zero only if a hold contradicts it, and a fork on an option
   -- takes the greater of its branches
   abbrev pub plain : Entries → List F → Shape → F
-  plain h done (lit v on) = cond (is_option rs v) (cond (denies (entry h v) on) R.zero R.one) (weight R sheet v on)
+  plain h done (lit v on) = if is_option rs v then (if denies (entry h v) on then R.zero else R.one) else weight R sheet v on
   plain h done (all cs) = times R (map (value_at R done) cs)
   plain h done (fork v a b) =
-      cond (is_option rs v) (greater R (value_at R done a) (value_at R done b)) (R.sum (value_at R done a) (value_at R done b))
+      if is_option rs v then greater R (value_at R done a) (value_at R done b) else R.sum (value_at R done a) (value_at R done b)
   plain h done top = R.one
   plain h done bottom = R.zero
 
@@ -64,14 +64,14 @@ module _ {F : Type 0} (R : Semiring F) (rs : Roles) (sheet : List F) where
     -- the value of node c under v on (or off)
     abbrev pub under : List (Part F) → Bool → ℕ → ℕ → F
     under done b v c =
-        cond (get_or ms c none v) (lesser R (get_or done c (no_part R)).value ((get_or done c (no_part R)).side b v)) (get_or done c (no_part R)).value
+        if get_or ms c none v then lesser R (get_or done c (no_part R)).value ((get_or done c (no_part R)).side b v) else (get_or done c (no_part R)).value
 
     -- the on (or off) value of a node for a free option that it mentions
     abbrev pub side_of : List (Part F) → Shape → Bool → ℕ → F
-    side_of done (lit x on) b v = cond (same b on) R.one R.zero
+    side_of done (lit x on) b v = if same b on then R.one else R.zero
     side_of done (all cs) b v = times R (map (under done b v) cs)
     side_of done (fork x p q) b v =
-        cond (is_option rs x) (greater R (under done b v p) (under done b v q)) (R.sum (under done b v p) (under done b v q))
+        if is_option rs x then greater R (under done b v p) (under done b v q) else R.sum (under done b v p) (under done b v q)
     side_of done top b v = R.zero
     side_of done bottom b v = R.zero
 
@@ -91,7 +91,7 @@ module _ {F : Type 0} (R : Semiring F) (rs : Roles) (sheet : List F) where
     abbrev pub pair : List (Part F) → Shape → Part F
     pair done s = record {
       value = value_of done s (free_of s);
-      side = λ b v. cond (is_option rs v && (is_free (entry h v) && mention ms s v)) (side_of done s b v) R.zero;
+      side = λ b v. if is_option rs v && (is_free (entry h v) && mention ms s v) then side_of done s b v else R.zero;
     }
 
   abbrev pub pairs : List Shape → Entries → List (Part F)

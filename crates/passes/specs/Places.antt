@@ -1,4 +1,4 @@
--- How many places of a work table the pair pass writes. Assumes nothing.
+-- How many places of a work table the pair pass writes.
 use Rattle.std.specs.Prelude.{ℕ, ◌+◌, ◌*◌, List, length}
 use Rattle.table.specs.Circuit.{Shape}
 use Rattle.table.specs.Sound.{Roles, options}

@@ -1,6 +1,5 @@
 -- What the passes compute of one node, from a work table in which each node's part has `stride` places, its value first.
--- Assumes nothing.
-use Rattle.std.specs.Prelude.{ℕ, ◌+◌, ◌-◌, ◌*◌, Bool, true, cond, ◌&&◌, List, length, nat_le, nat_lt, slice_index_or}
+use Rattle.std.specs.Prelude.{ℕ, ◌+◌, ◌-◌, ◌*◌, Bool, true, ◌&&◌, List, length, nat_le, nat_lt, slice_index_or, if◌then◌else◌}
 use Rattle.std.specs.List.{list_all}
 use Rattle.text.specs.declared.record.Form.{Form}
 use Rattle.text.specs.declared.record.Form.TheVariants.{Literal, And, Fork, True, False}
@@ -11,7 +10,7 @@ use Rattle.table.specs.Sound.{known}
 
 -- where a variable's on (or off) weight stands in a sheet
 abbrev pub place : ℕ → Bool → ℕ
-place v b = cond b (2 * v - 2) (2 * v - 1)
+place v b = if b then 2 * v - 2 else 2 * v - 1
 
 -- whether the part of node c is among the first `size` places
 abbrev pub inside : (size stride c : ℕ) → Bool

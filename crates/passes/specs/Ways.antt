@@ -1,6 +1,6 @@
 -- What the passes make of a node, in one form: a literal's own value, the product of an and's children, two branches
--- joined. Assumes nothing.
-use Rattle.std.specs.Prelude.{ℕ, Bool, cond, List, map}
+-- joined.
+use Rattle.std.specs.Prelude.{ℕ, Bool, List, map, if◌then◌else◌}
 use Rattle.kinds.specs.Semiring.{Semiring, greater}
 use Rattle.table.specs.Circuit.{Shape, lit, all, fork, top, bottom, World, same}
 use Rattle.table.specs.Count.{weight}
@@ -25,7 +25,7 @@ module _ {F : Type 0} (R : Semiring F) where
 
   -- one where the test holds, else zero
   abbrev pub indicator : Bool → F
-  indicator b = cond b R.one R.zero
+  indicator b = if b then R.one else R.zero
 
   -- the way that adds branches
   abbrev pub sums : (ℕ → Bool → F) → Way F
@@ -33,7 +33,7 @@ module _ {F : Type 0} (R : Semiring F) where
 
   -- an option's branches are joined by the greater, a chance's by the sum
   abbrev pub joined : Roles → ℕ → F → F → F
-  joined rs v a b = cond (is_option rs v) (greater R a b) (R.sum a b)
+  joined rs v a b = if is_option rs v then greater R a b else R.sum a b
 
   -- the way of a node's side b of an option
   abbrev pub side_way : Roles → Bool → Way F
@@ -42,11 +42,11 @@ module _ {F : Type 0} (R : Semiring F) where
   module _ (rs : Roles) (sheet : List F) where
     -- the way of the counting pass, and that of the plain pass
     abbrev pub count_way : World → Way F
-    count_way w = sums (λ v on. cond (is_option rs v) (indicator (same (w v) on)) (weight R sheet v on))
+    count_way w = sums (λ v on. if is_option rs v then indicator (same (w v) on) else weight R sheet v on)
 
     abbrev pub plain_way : Entries → Way F
     plain_way h = record {
-      leaf = λ v on. cond (is_option rs v) (cond (denies (entry h v) on) R.zero R.one) (weight R sheet v on);
+      leaf = λ v on. if is_option rs v then (if denies (entry h v) on then R.zero else R.one) else weight R sheet v on;
       join = joined rs;
       edge = R.one;
     }

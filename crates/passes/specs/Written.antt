@@ -1,4 +1,4 @@
--- What the pair pass leaves in a work table. Assumes nothing.
+-- What the pair pass leaves in a work table.
 use Rattle.std.specs.Prelude.{◌≡◌, List, ◌++◌, drop}
 use Rattle.kinds.specs.Semiring.{Semiring}
 use Rattle.table.specs.Whole.{circuit, roles}

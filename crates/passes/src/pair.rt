@@ -10,7 +10,7 @@ ghost use Rattle.table.specs.Whole.{circuit, roles};
 ghost use Rattle.passes.specs.Open.{FreeOptions, OpenOptions};
 ghost use Rattle.passes.specs.Passes.{times};
 ghost use Rattle.passes.specs.Places.{stride, pair_places};
-ghost use Rattle.passes.specs.Rows.{under_in, open_at, lower, lowest, row_in, part_in};
+ghost use Rattle.passes.specs.Rows.{under_in, open_at, lower, least_in_row, row_in, part_in};
 ghost use Rattle.passes.specs.Steps.{inside, ranged, readable};
 ghost use Rattle.passes.specs.Ways.{made, side_way};
 ghost use Rattle.passes.specs.Written.{PairsWritten};
@@ -157,7 +157,7 @@ impl<K: Figure> Step<'_, '_, '_, K> {
     fn write_sides(&self, part: &mut [K]) -> Option<K>
         requires { length part.old ≡ self.now.values.stride }
         ensures row { drop 1 part.new ≡ row_in K.ring (roles self.now.query.now.table.now) self.now.query.now.holds.now.entries (circuit self.now.query.now.table.now) self.now.values.stride self.now.values.places.now self.now.node self.now.options.now }
-        ensures least { result ≡ lowest K.ring (open_at self.now.query.now.holds.now.entries (about (circuit self.now.query.now.table.now) self.now.node)) (row_in K.ring (roles self.now.query.now.table.now) self.now.query.now.holds.now.entries (circuit self.now.query.now.table.now) self.now.values.stride self.now.values.places.now self.now.node self.now.options.now) None self.now.options.now }
+        ensures least { result ≡ least_in_row K.ring (open_at self.now.query.now.holds.now.entries (about (circuit self.now.query.now.table.now) self.now.node)) (row_in K.ring (roles self.now.query.now.table.now) self.now.query.now.holds.now.entries (circuit self.now.query.now.table.now) self.now.values.stride self.now.values.places.now self.now.node self.now.options.now) None self.now.options.now }
     {
         if self.free == 0 {
             part.fill_with(|| K::zero());

@@ -1,5 +1,5 @@
 //! What a pass is asked.
-ghost use Rattle.std.specs.Prelude.{◌≡◌, ◌*◌, ◌≤◌, true, cond, length};
+ghost use Rattle.std.specs.Prelude.{◌≡◌, ◌*◌, ◌≤◌, true, length, if◌then◌else◌};
 ghost use Rattle.table.specs.Count.{weight};
 ghost use Rattle.table.specs.Sound.{known, is_option};
 ghost use Rattle.table.specs.Whole.{roles};
@@ -32,7 +32,7 @@ impl<K: Figure> Query<'_, K> {
     /// What a literal counts: a chance's its weight, an option's one if it is taken, else zero.
     pub(crate) fn literal(&self, variable: u16, on: bool, taken: bool) -> K
         requires { known (length (roles self.now.table.now)) variable ≡ true }
-        ensures { result ≡ cond (is_option (roles self.now.table.now) variable) (indicator K.ring taken) (weight K.ring self.now.sheet.now variable on) }
+        ensures { result ≡ (if is_option (roles self.now.table.now) variable then indicator K.ring taken else weight K.ring self.now.sheet.now variable on) }
     {
         if !self.table.has_option(variable) {
             self.weight(variable, on)

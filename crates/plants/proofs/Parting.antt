@@ -1,4 +1,4 @@
--- The parts of an accepted file, from those that the stores give. Assumes nothing.
+-- The parts of an accepted file, from those that the stores give.
 use Rattle.std.proofs.Common.{◌≡◌, ℕ, List, refl, subst}
 use Rattle.parts.specs.Parts.{ArePartsOf}
 use Rattle.parts.specs.declared.stores.Parts.{Parts}

@@ -1,4 +1,4 @@
--- The parts of a table, from its file. Assumes nothing.
+-- The parts of a table, from its file.
 use Rattle.std.specs.Prelude.{◌≡◌, ℕ, List, Ok}
 use Rattle.text.specs.declared.record.Contents.{Contents}
 use Rattle.text.specs.declared.record.Node.{Node}

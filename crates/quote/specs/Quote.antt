@@ -1,4 +1,4 @@
--- What the program prints. Assumes nothing.
+-- What the program prints.
 use Rattle.std.specs.Prelude.{ℕ, List}
 use Rattle.kinds.specs.Tallies.{tallies}
 use Rattle.kinds.specs.Texts.{tally_reading, tally_text}

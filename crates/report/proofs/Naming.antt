@@ -1,4 +1,4 @@
--- Lemmas on the printed lines. Assumes nothing.
+-- Lemmas on the printed lines.
 use Rattle.std.proofs.Common.{◌≡◌, ℕ, ◌+◌, Bool, true, false, cond, ◌&&◌, List, [], ◌∷◌, ◌++◌, IfOk, Some, codes, decimal, Result, sym, refl, ap, ◌∙◌, append_assoc}
 use Rattle.std.proofs.lemmas.Result.{IfOk-weaker}
 use Rattle.text.specs.Format.{is_option_role, spelled}

@@ -1,4 +1,4 @@
--- The text that a program prints for a list of calls on a plant. Assumes nothing.
+-- The text that a program prints for a list of calls on a plant.
 use Rattle.std.specs.Prelude.{◌≡◌, ℕ, List, [], ◌∷◌, map, drop, replicate, Ok, Err, codes, Option}
 use Rattle.kinds.specs.Semiring.{Semiring}
 use Rattle.text.specs.Format.{listed}

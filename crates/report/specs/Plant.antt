@@ -1,4 +1,4 @@
--- The text that a program prints for a plant's file: a table file with a weight text behind it. Assumes nothing.
+-- The text that a program prints for a plant's file: a table file with a weight text behind it.
 use Rattle.std.specs.Prelude.{ℕ, List, [], ◌∷◌, length, drop, replicate, Ok, Err, Option, Result}
 use Rattle.kinds.specs.Semiring.{Semiring}
 use Rattle.text.specs.Format.{listed}

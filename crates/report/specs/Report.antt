@@ -1,5 +1,5 @@
--- The text that a program prints, as bytes. Assumes nothing.
-use Rattle.std.specs.Prelude.{ℕ, ◌+◌, cond, ◌&&◌, List, [], ◌∷◌, ◌++◌, Some, None, codes, decimal, Option}
+-- The text that a program prints, as bytes.
+use Rattle.std.specs.Prelude.{ℕ, ◌+◌, ◌&&◌, List, [], ◌∷◌, ◌++◌, Some, None, codes, decimal, Option, if◌then◌else◌}
 use Rattle.text.specs.Format.{is_option_role, spelled}
 use Rattle.text.specs.Printed.{Lines, refusal_fields}
 use Rattle.text.specs.declared.record.Variable.{Variable}
@@ -22,9 +22,9 @@ refusal f = refusal_fields (fault_number f) (fault_place f)
 abbrev pub names_on : Entries → ℕ → List Variable → List (List ℕ)
 names_on h number [] = []
 names_on h number (v ∷ vs) =
-    cond (is_option_role v.role && selected h number)
-    (spelled v.name ∷ names_on h (number + 1) vs)
-    (names_on h (number + 1) vs)
+    if is_option_role v.role && selected h number
+    then spelled v.name ∷ names_on h (number + 1) vs
+    else names_on h (number + 1) vs
 
 -- the names of the options that the best selection has on, if there is one
 abbrev pub best_names : {F : Type 0} → List Variable → Option (Selection F) → List (List ℕ)

@@ -1,4 +1,4 @@
--- What an answer says of the text that is to be printed. Assumes nothing.
+-- What an answer says of the text that is to be printed.
 use Rattle.std.specs.Prelude.{◌≡◌, [], ◌∷◌, Ok, Err, Result, string_bytes, String}
 use Rattle.std.specs.declared.alloc.Global.{Global}
 use Rattle.text.specs.Printed.{Lines, text_of}

@@ -1,4 +1,4 @@
--- Select names a best selection, and none if no figure ranks above zero. Assumes nothing.
+-- Select names a best selection, and none if no figure ranks above zero.
 use Rattle.std.proofs.Common.{◌≡◌, ℕ, zero, suc, ◌≤◌, Bool, true, false, cond, ◌⊎◌, List, length, Some, None, Option, sym, refl, ap, ◌∙◌, subst, inl, inr, arith}
 use mathlib.Core.Path.{fun_ext}
 use Rattle.std.proofs.lemmas.Bool.{both_ways, cases_Bool, cond_both}

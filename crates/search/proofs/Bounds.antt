@@ -1,4 +1,4 @@
--- What the bound under holds is, for a sound table. Assumes nothing.
+-- What the bound under holds is, for a sound table.
 use Rattle.std.proofs.Common.{◌≡◌, List, refl}
 use Rattle.kinds.specs.Semiring.{Semiring, Laws}
 use Rattle.table.specs.Circuit.{Shape}

@@ -1,4 +1,4 @@
--- A day is answered as worked out, and in no other way. Assumes nothing.
+-- A day is answered as worked out, and in no other way.
 use Rattle.std.specs.List.{list_all, range_with_len}
 use Rattle.std.proofs.Common.{◌≡◌, ℕ, zero, suc, ◌+◌, ◌-◌, ◌<◌, ◌≤◌, Bool, true, false, not, ◌&&◌, eqb, ltb, ◌⊎◌, List, [], ◌∷◌, length, get_or, replicate, Some, None, Ok, Err, Option, sym, refl, ap, ◌∙◌, ap₂, inl, inr, arith}
 use Rattle.std.proofs.lemmas.Bool.{true≢false, false≢true, cases_Bool, cond_both, and_parts, not-true, ltb-true}
@@ -19,7 +19,7 @@ use Rattle.search.specs.declared.fault.Fault.TheVariants.{StrayHold, NoOption, S
 use Rattle.search.specs.Faults.{fault_number}
 use Rattle.search.specs.Orders.{Order, Lawful}
 use Rattle.search.specs.Study.{Tests, first_fit, stray_hold}
-use Rattle.search.specs.Day.{Book, new, tests, First, Accepted, changed, after, Says, Right, Day, over, asked, reply, Answer, answer, answers, book_after, DaysAgree, NoStrays}
+use Rattle.search.specs.Day.{Book, new, tests, First, Accepted, changed, after, Says, Right, Day, ended, asked, reply, Answer, answer, answers, book_after, DaysAgree, NoStrays}
 use Rattle.search.proofs.Holding.{entry_apart, entries_length, all_held}
 use Rattle.search.proofs.Best.{one_figure, selects}
 use Rattle.search.proofs.Bounds.{bounded}
@@ -115,7 +115,7 @@ module _ {F : Type 0} (R : Semiring F) (pick : Order F) (rs : Roles) (ss : List 
 
   one_day : {b end : Book F} {cs : List (Call F)} {given : List (Answer F)} → Day R pick rs ss work-size b cs given end
       → (given ≡ answers R pick rs ss work-size b cs) × (end ≡ book_after R pick rs ss work-size b cs)
-  one_day over = (refl, refl)
+  one_day ended = (refl, refl)
   one_day (asked {b = b} {next = next} {c = c} {a = a} {cs = cs} right rest) =
       let one = one_answer b next c a right in
       let later = one_day rest in
@@ -160,7 +160,7 @@ module _ {F : Type 0} (R : Semiring F) (laws : Laws R) (pick : Order F) (lawful 
     -- from each book with an entry for each variable
     runs : (b : Book F) (cs : List (Call F)) → length rs ≤ length b.holds
         → Day R pick rs ss work-size b cs (answers R pick rs ss work-size b cs) (book_after R pick rs ss work-size b cs)
-    runs b [] room = over
+    runs b [] room = ended
     runs b (c ∷ cs) room = asked (answers_right b c room) (runs (after rs ss work-size b c) cs
         (after_keeps rs ss work-size b (λ h. length rs ≤ length h) c room (λ _. rw (changed_length b c) room)))
 
@@ -230,7 +230,7 @@ module _ {F : Type 0} (R : Semiring F) (pick : Order F) (rs : Roles) (ss : List 
 
   never_stray : {b end : Book F} {cs : List (Call F)} {given : List (Answer F)} → Day R pick rs ss work-size b cs given end → Tidy rs b.holds
       → Among (Err StrayHold) given → ⊥
-  never_stray over tidy m = m
+  never_stray ended tidy m = m
   never_stray (asked {b = b} {next = next} {c = c} {a = a} right rest) tidy (inl same) =
       true≢false (sym (ap for_stray same) ∙ ap for_stray (one_answer R pick rs ss work-size b next c a right).0 ∙ answer_stray b c tidy)
   never_stray (asked {b = b} {next = next} {c = c} {a = a} right rest) tidy (inr m) =

@@ -1,4 +1,4 @@
--- Holding one free option: which options are free then, and which selections keep the holds. Assumes nothing.
+-- Holding one free option: which options are free then, and which selections keep the holds.
 use Rattle.std.proofs.Common.{◌≡◌, ℕ, suc, ◌+◌, ◌-◌, ◌<◌, ◌≤◌, Bool, true, false, cond, eqb, List, [], ◌∷◌, length, set, sym, refl, ap, ◌∙◌, inl, inr, arith, length-set, get_or-set_other, get_or-set_same}
 use Rattle.std.specs.List.{filter}
 use Rattle.std.proofs.lemmas.Bool.{cases_Bool, cases_eq, cond_both, eqb-false, true≢false, false≢true, ne_eqb, cond-false}

@@ -1,4 +1,4 @@
--- What an accepted weight text leaves: each chance has the weights of its last line. Assumes nothing.
+-- What an accepted weight text leaves: each chance has the weights of its last line.
 use Rattle.std.proofs.Common.{◌≡◌, ℕ, ◌+◌, ◌*◌, ◌<◌, ◌≤◌, Bool, true, false, cond, not, List, [], ◌∷◌, length, get_or, drop, replicate, set, Ok, Err, Option, Result, inl, inr, sym, refl, ap, ◌∙◌, subst, arith}
 use Rattle.std.proofs.Math.Bool.{not-not}
 use Rattle.std.proofs.lemmas.Bool.{cases_Bool, cases_eq, cond-true, cond-false, and_parts, eq-eqb, ne_eqb, ltb-false}

@@ -1,4 +1,4 @@
--- Strongest lean, one choice after the other. Assumes nothing.
+-- Strongest lean, one choice after the other.
 use Rattle.std.specs.List.{list_all, filter, fold, reduce, FoldsTo}
 use Rattle.std.specs.Iterator.{AfterFirst, AlwaysYields, CallableInFold, FoldTurn, Yields}
 use Rattle.std.specs.Fn.{Takes, Called}

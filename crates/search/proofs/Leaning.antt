@@ -1,4 +1,4 @@
--- What the work table tells of the root, after the pair pass. Assumes nothing.
+-- What the work table tells of the root, after the pair pass.
 use Rattle.std.proofs.Common.{◌≡◌, ℕ, ◌+◌, ◌-◌, ◌*◌, ◌<◌, ◌≤◌, Bool, true, false, List, ◌++◌, length, get_or, take, drop, sym, refl, ap, ◌∙◌, zero-add, mul-one, mul-add, arith}
 use Rattle.std.proofs.lemmas.List.{get_or-take, get_or-drop, get_or_append_left}
 use Rattle.std.proofs.lemmas.Slice.{drop-append-drop}

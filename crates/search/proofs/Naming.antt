@@ -1,4 +1,4 @@
--- A lawful order names a free option. Assumes nothing.
+-- A lawful order names a free option.
 use Rattle.std.proofs.Common.{◌≡◌, ℕ, true, false, List, [], ◌∷◌, map, Some, None, Option, sym, refl, ap, ◌∙◌, subst}
 use Rattle.std.proofs.lemmas.Bool.{both_ways}
 use Rattle.kinds.specs.Semiring.{Semiring}

@@ -1,4 +1,4 @@
--- How many branches are opened. Assumes nothing.
+-- How many branches are opened.
 use Rattle.std.proofs.Common.{◌≡◌, ℕ, zero, suc, ◌+◌, ◌^◌, ◌<◌, ◌≤◌, Some, None, Option, sym, refl, subst, not-suc-le-zero, arith}
 use Rattle.std.proofs.lemmas.Bool.{cond_both}
 use Rattle.kinds.specs.Semiring.{Semiring}

@@ -1,4 +1,4 @@
--- What number order and strongest lean answer. Assumes nothing.
+-- What number order and strongest lean answer.
 use Rattle.std.specs.Prelude.{◌≡◌, ℕ, ◌<◌, ◌≤◌, Bool, true, false, ltb, List, [], ◌∷◌, nat_lt, refl}
 use Rattle.std.specs.List.{list_all, filter}
 use Rattle.std.proofs.Common.{sym, ap, subst, inl, inr, arith}

@@ -1,4 +1,4 @@
--- One step back along the trail. Assumes nothing.
+-- One step back along the trail.
 use Rattle.std.proofs.Common.{◌≡◌, ℕ, suc, true, false, List, get_or, set, sym, ap, ◌∙◌}
 use Rattle.std.proofs.lemmas.Bool.{cond-true, cond-false}
 use Rattle.passes.specs.Holding.{Entries}

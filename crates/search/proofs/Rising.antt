@@ -1,4 +1,4 @@
--- Lists of rising numbers. Assumes nothing.
+-- Lists of rising numbers.
 use Rattle.std.specs.Prelude.{◌≡◌, ℕ, ◌+◌, ◌<◌, Bool, true, false, List, [], ◌∷◌, map, nat_lt, refl}
 use Rattle.std.specs.List.{list_all, filter}
 use Rattle.std.proofs.Common.{arith}

@@ -1,4 +1,4 @@
--- The calls of a day, answered one after the other. Assumes nothing.
+-- The calls of a day, answered one after the other.
 use Rattle.std.proofs.Common.{◌≡◌, ℕ, ◌+◌, ◌<◌, ◌≤◌, min, List, [], ◌∷◌, ◌++◌, length, get_or, take, drop, set, sym, refl, ap, ◌∙◌, ap₂, inl, inr, append_assoc, arith}
 use Rattle.std.proofs.lemmas.List.{at_drop_more, at_drop_all, take_more_set, take-append-drop, append-nil, get_or-take, length-take, length-set, drop-set-lt, drop_all, drop_at, drop-drop, take_all, take_at}
 use Rattle.std.proofs.lemmas.Bool.{cases_lt}

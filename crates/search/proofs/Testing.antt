@@ -1,4 +1,4 @@
--- What a test answers, and tests of all variables at once. Assumes nothing.
+-- What a test answers, and tests of all variables at once.
 use Rattle.std.proofs.Common.{◌≡◌, ℕ, suc, ◌+◌, ◌-◌, ◌<◌, Bool, true, false, ◌&&◌, ◌||◌, [], ◌∷◌, length, get_or, Ok, Err, Result, sym, refl, ap, ◌∙◌, ap₂, add-zero, zero-add, arith}
 use Rattle.std.specs.List.{list_any, range_with_len, enumerate_from}
 use Rattle.table.specs.Sound.{Roles, is_option, from, options}

@@ -1,4 +1,4 @@
--- What an order is told of the free options. Assumes nothing.
+-- What an order is told of the free options.
 use Rattle.std.specs.List.{list_all, filter}
 use Rattle.std.proofs.Common.{◌≡◌, ℕ, suc, ◌+◌, ◌*◌, ◌<◌, ◌≤◌, Bool, true, false, cond, List, [], ◌∷◌, map, length, get_or, Some, refl, ap, ◌∙◌, ap₂, not-suc-le-zero, arith}
 use Rattle.std.proofs.lemmas.Bool.{and_from, lt-ltb}

@@ -1,4 +1,4 @@
--- One branch opened. Assumes nothing.
+-- One branch opened.
 use Rattle.std.proofs.Common.{◌≡◌, ℕ, zero, suc, ◌+◌, ◌<◌, Bool, true, false, cond, is_some, Some, None, Option, sym, refl, ap, ◌∙◌, not-suc-le-zero}
 use Rattle.std.proofs.lemmas.Bool.{cond-true, cond-false, true≢false}
 use Rattle.kinds.specs.Semiring.{Semiring}

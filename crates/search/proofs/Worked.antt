@@ -1,14 +1,14 @@
--- The small tables' cases, by computing. Assumes nothing.
+-- The small tables' cases, by computing.
 use Rattle.std.proofs.Common.{refl}
 use Rattle.kinds.specs.Tallies.{same_count}
 use Rattle.table.specs.Circuit.{onward}
-use Rattle.table.specs.Count.{figure, over, scenario_weight}
+use Rattle.table.specs.Count.{figure, sum_over, scenario_weight}
 use Rattle.table.specs.Sound.{verdict_from}
 use Rattle.search.specs.Select.{explored}
 use Rattle.search.specs.Cases.{Worked}
 
 pub worked : Worked
-unfolding figure over scenario_weight onward verdict_from explored
+unfolding figure sum_over scenario_weight onward verdict_from explored
 worked = record {
   plant_sound = refl;
   on_figure = refl;

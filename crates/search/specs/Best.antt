@@ -1,4 +1,4 @@
--- What select's answer means. Assumes nothing.
+-- What select's answer means.
 use Rattle.std.specs.Prelude.{◌≡◌, true, List, Some, None, Option}
 use Rattle.kinds.specs.Semiring.{Semiring}
 use Rattle.table.specs.Circuit.{Shape, World}

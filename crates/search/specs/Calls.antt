@@ -1,4 +1,4 @@
--- What a study's calls may write of the work table, and what they leave there. Assumes nothing.
+-- What a study's calls may write of the work table, and what they leave there.
 use Rattle.std.specs.Prelude.{◌≡◌, ℕ, List, ◌++◌, length, drop}
 use Rattle.kinds.specs.Semiring.{Semiring}
 use Rattle.table.specs.declared.table.Table.{Table}

@@ -1,4 +1,4 @@
--- Plant K and other small tables, worked out. Assumes nothing.
+-- Plant K and other small tables, worked out.
 use Rattle.std.specs.Prelude.{◌≡◌, ℕ, true, false, List, [], ◌∷◌, Some, None, Option}
 use Rattle.kinds.specs.Tallies.{tally, tallies}
 use Rattle.kinds.specs.Peaks.{load, peaks}

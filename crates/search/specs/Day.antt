@@ -1,4 +1,4 @@
--- The working day: a list of calls on one new study, and the book that is kept of it. Assumes nothing.
+-- The working day: a list of calls on one new study, and the book that is kept of it.
 use Rattle.std.specs.Prelude.{◌≡◌, ℕ, ◌≤◌, true, false, List, [], ◌∷◌, length, Ok, Err, Result, slice_set}
 use Rattle.kinds.specs.Semiring.{Semiring}
 use Rattle.table.specs.Circuit.{Shape, World}
@@ -130,7 +130,7 @@ module _ {F : Type 0} (R : Semiring F) (pick : Order F) (rs : Roles) (ss : List 
 
   -- a day: the book that it begins with, the calls, their answers, the book that it ends with
   pub data Day : Book F → List (Call F) → List (Answer F) → Book F → Type 0 where
-    over : {b : Book F} → Day b [] [] b
+    ended : {b : Book F} → Day b [] [] b
     asked : {b next end : Book F} {c : Call F} {a : Answer F} {cs : List (Call F)} {more : List (Answer F)}
         → Right b c a next → Day next cs more end → Day b (c ∷ cs) (a ∷ more) end
 

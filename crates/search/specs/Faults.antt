@@ -1,4 +1,4 @@
--- The refusals of a study: each fault's number, place and layer. Assumes nothing.
+-- The refusals of a study: each fault's number, place and layer.
 use Rattle.std.specs.Prelude.{ℕ}
 use Rattle.text.specs.declared.fault.Layer.{Layer}
 use Rattle.text.specs.declared.fault.Layer.TheVariants as layer

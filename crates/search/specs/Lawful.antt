@@ -1,4 +1,4 @@
--- Number order and strongest lean are lawful; the trait of orders asks each for this proof. Assumes nothing.
+-- Number order and strongest lean are lawful; the trait of orders asks each for this proof.
 use Rattle.std.specs.Prelude.{◌≡◌, ℕ, true, List, [], ◌∷◌, map, refl}
 use Rattle.std.specs.List.{filter}
 use Rattle.std.proofs.Common.{sym, ap, subst, inl, inr}

@@ -1,5 +1,5 @@
--- The free options, as a branching order is told of them. Assumes nothing.
-use Rattle.std.specs.Prelude.{ℕ, ◌+◌, ◌-◌, ◌*◌, cond, List, [], ◌∷◌, length}
+-- The free options, as a branching order is told of them.
+use Rattle.std.specs.Prelude.{ℕ, ◌+◌, ◌-◌, ◌*◌, List, [], ◌∷◌, length, if◌then◌else◌}
 use Rattle.table.specs.Circuit.{Shape, Vars}
 use Rattle.table.specs.Facts.{about}
 use Rattle.table.specs.Sound.{Roles, options}
@@ -13,7 +13,7 @@ choice_of m j v = record { option = v; mentioned = m v; place = 2 * j + 1 }
 -- the free ones of the options vs, the first of which has index j
 abbrev pub choices_from : Vars → Entries → ℕ → List ℕ → List Choice
 choices_from m h j [] = []
-choices_from m h j (v ∷ vs) = cond (is_free (entry h v)) (choice_of m j v ∷ choices_from m h (j + 1) vs) (choices_from m h (j + 1) vs)
+choices_from m h j (v ∷ vs) = if is_free (entry h v) then choice_of m j v ∷ choices_from m h (j + 1) vs else choices_from m h (j + 1) vs
 
 -- what the root mentions
 abbrev pub root_mentions : List Shape → Vars

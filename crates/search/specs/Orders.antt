@@ -1,5 +1,5 @@
--- Branching orders: which free option to branch on next. Assumes nothing.
-use Rattle.std.specs.Prelude.{◌≡◌, ℕ, ◌+◌, ◌≤◌, Bool, true, false, cond, ◌&&◌, ltb, List, [], ◌∷◌, map, nat_lt, slice_index_or}
+-- Branching orders: which free option to branch on next.
+use Rattle.std.specs.Prelude.{◌≡◌, ℕ, ◌+◌, ◌≤◌, Bool, true, false, ◌&&◌, ltb, List, [], ◌∷◌, map, nat_lt, slice_index_or, if◌then◌else◌}
 use Rattle.std.specs.List.{list_all, filter}
 use Rattle.kinds.specs.Semiring.{Semiring, lesser}
 use Rattle.table.specs.Facts.{Among}
@@ -48,7 +48,7 @@ module _ {F : Type 0} (R : Semiring F) where
   -- the first of those whose weaker value ranks lowest
   abbrev pub strongest_of : Lean F → List (Lean F) → Lean F
   strongest_of l [] = l
-  strongest_of l (x ∷ xs) = strongest_of (cond (R.upto (weaker l) (weaker x)) l x) xs
+  strongest_of l (x ∷ xs) = strongest_of (if R.upto (weaker l) (weaker x) then l else x) xs
 
   -- its option, or v if there is none to choose from
   abbrev pub strongest_or : ℕ → List (Lean F) → ℕ
@@ -95,4 +95,4 @@ placed size c = nat_lt (c.place + 1) size
 
 -- of two choices the first, or the second if its weaker value ranks lower
 abbrev pub stronger : {F : Type 0} → Semiring F → List F → Choice → Choice → Choice
-stronger R part b c = cond (R.upto (weaker R (lean_at R part b)) (weaker R (lean_at R part c))) b c
+stronger R part b c = if R.upto (weaker R (lean_at R part b)) (weaker R (lean_at R part c)) then b else c

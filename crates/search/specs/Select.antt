@@ -1,5 +1,5 @@
--- Select: the best selection by branch and bound. Assumes nothing.
-use Rattle.std.specs.Prelude.{ℕ, zero, suc, ◌+◌, true, false, cond, List, [], ◌∷◌, map, length, Some, None, Option}
+-- Select: the best selection by branch and bound.
+use Rattle.std.specs.Prelude.{ℕ, zero, suc, ◌+◌, true, false, List, [], ◌∷◌, map, length, Some, None, Option, if◌then◌else◌}
 use Rattle.kinds.specs.Semiring.{Semiring}
 use Rattle.table.specs.Circuit.{Shape, Vars}
 use Rattle.table.specs.Count.{figure}
@@ -32,17 +32,17 @@ opened s = record { best = s.best; openings = s.openings + 1 }
 -- a selection is the best from now on if it ranks above the best so far
 abbrev pub offered : {F : Type 0} → Semiring F → Entries → F → Found F → Found F
 offered R h f s =
-    cond (R.upto f (best_figure R s.best)) s
-    (record { best = Some (record { holds = record { entries = h }; figure = f }); openings = s.openings })
+    if R.upto f (best_figure R s.best) then s
+    else (record { best = Some (record { holds = record { entries = h }; figure = f }); openings = s.openings })
 
 -- opens the holds h, and all that follows: cut, or a selection counted, or an option opened on and then off; at most k
 -- options are free
 unfoldable pub explored : {F : Type 0} → Semiring F → Branching F → ℕ → Entries → Found F → Found F
 explored R p zero h s =
-    cond (R.upto (p.bound_of h) (best_figure R s.best)) (opened s) (offered R h (p.figure_of h) (opened s))
+    if R.upto (p.bound_of h) (best_figure R s.best) then opened s else offered R h (p.figure_of h) (opened s)
 explored R p (suc k) h s =
-    cond (R.upto (p.bound_of h) (best_figure R s.best)) (opened s)
-    (elim (p.next h) [
+    if R.upto (p.bound_of h) (best_figure R s.best) then opened s
+    else (elim (p.next h) [
       | None ↦ offered R h (p.figure_of h) (opened s)
       | Some v ↦ explored R p k (with_entry h v Off) (explored R p k (with_entry h v On) (opened s))
     ])

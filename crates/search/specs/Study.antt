@@ -1,5 +1,5 @@
--- The calls of a study: which refusals can meet them, and what follows. Assumes nothing.
-use Rattle.std.specs.Prelude.{ℕ, ◌*◌, Bool, cond, not, ◌&&◌, List, [], ◌∷◌, length, replicate, Some, None, Option, Ok, Err, Result, nat_lt}
+-- The calls of a study: which refusals can meet them, and what follows.
+use Rattle.std.specs.Prelude.{ℕ, ◌*◌, Bool, not, ◌&&◌, List, [], ◌∷◌, length, replicate, Some, None, Option, Ok, Err, Result, nat_lt, if◌then◌else◌}
 use Rattle.std.specs.List.{list_any, range_with_len}
 use Rattle.table.specs.Circuit.{Shape}
 use Rattle.table.specs.Sound.{Roles, is_option, options, known}
@@ -21,7 +21,7 @@ Tests = List (Bool × Fault)
 -- the first that fits
 abbrev pub first_fit : Tests → Option Fault
 first_fit [] = None
-first_fit (t ∷ ts) = cond t.0 (Some t.1) (first_fit ts)
+first_fit (t ∷ ts) = if t.0 then Some t.1 else first_fit ts
 
 -- the answer, or the first refusal that fits
 abbrev pub answered : {A : Type 0} → Tests → A → Result A Fault

@@ -1,5 +1,5 @@
--- The loop of branch and bound: a branch is opened, a trail leads to it, and the loop goes back along it. Assumes nothing.
-use Rattle.std.specs.Prelude.{ℕ, zero, suc, false, cond, List, Some, None, Option, get_or, slice_set}
+-- The loop of branch and bound: a branch is opened, a trail leads to it, and the loop goes back along it.
+use Rattle.std.specs.Prelude.{ℕ, zero, suc, false, List, Some, None, Option, get_or, slice_set, if◌then◌else◌}
 use Rattle.kinds.specs.Semiring.{Semiring}
 use Rattle.passes.specs.Holding.{Entries}
 use Rattle.passes.specs.Marks.{with_entry}
@@ -16,8 +16,8 @@ next_at (suc k) o = o
 -- one branch opened, where at most k options are free: the option to branch on, if anything follows, and what is found
 unfoldable pub turn : {F : Type 0} → Semiring F → Branching F → ℕ → Entries → Found F → Option ℕ × Found F
 turn R p k h s =
-    cond (R.upto (p.bound_of h) (best_figure R s.best)) (None, opened s)
-    (elim (next_at k (p.next h)) [
+    if R.upto (p.bound_of h) (best_figure R s.best) then (None, opened s)
+    else (elim (next_at k (p.next h)) [
       | None ↦ (None, offered R h (p.figure_of h) (opened s))
       | Some v ↦ (Some v, opened s)
     ])
@@ -35,6 +35,6 @@ off_side b = record { option = b.option; on = false }
 unfoldable pub back : List Branch → ℕ → Entries → ℕ × List Branch × Entries
 back trail zero h = (0, trail, h)
 back trail (suc d) h =
-    cond (get_or trail d no_branch).on
-    (suc d, slice_set trail d (off_side (get_or trail d no_branch)), with_entry h (get_or trail d no_branch).option Off)
-    (back trail d (with_entry h (get_or trail d no_branch).option Free))
+    if (get_or trail d no_branch).on
+    then (suc d, slice_set trail d (off_side (get_or trail d no_branch)), with_entry h (get_or trail d no_branch).option Off)
+    else back trail d (with_entry h (get_or trail d no_branch).option Free)

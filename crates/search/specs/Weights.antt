@@ -1,14 +1,14 @@
--- What a weight text says, or the first refusal that fits. Assumes nothing.
+-- What a weight text says, or the first refusal that fits.
 --
 -- A text is a list of lines, a line a list of fields: the letter W, a chance's number, its on weight, its off weight.
-use Rattle.std.specs.Prelude.{◌≡◌, ℕ, ◌+◌, ◌*◌, Bool, true, cond, ◌&&◌, List, [], ◌∷◌, length, drop, replicate, Ok, Err, Option, Result, ◌==◌, slice_index_or}
+use Rattle.std.specs.Prelude.{◌≡◌, ℕ, ◌+◌, ◌*◌, Bool, true, ◌&&◌, List, [], ◌∷◌, length, drop, replicate, Ok, Err, Option, Result, ◌==◌, slice_index_or, if◌then◌else◌}
 use Rattle.std.specs.List.{list_all}
 use Rattle.std.specs.Option.{ok_or}
 use Rattle.std.specs.Str.{bytes_eq}
 use Rattle.text.specs.declared.fault.Fault.TheVariants as text_fault
 use Rattle.text.specs.declared.fault.Reason.{Reason}
 use Rattle.text.specs.declared.fault.Reason.TheVariants as reason
-use Rattle.text.specs.Format.{Said, then, provided, number_field, overwritten}
+use Rattle.text.specs.Format.{Said, and_then, provided, number_field, overwritten}
 use Rattle.text.specs.Lines.{printable, lines, fields}
 use Rattle.table.specs.declared.fault.Fault.TheVariants as table_fault
 use Rattle.kinds.specs.Semiring.{Semiring}
@@ -37,12 +37,12 @@ in_text r line = Table (table_fault.Text (text_fault.Line r line))
 module _ {F : Type 0} where
   -- the number and the two weights, by what their fields say
   abbrev pub together : Said ℕ → Said F → Said F → Said (Weighing F)
-  together v a b = then v (λ n. then a (λ x. then b (λ y. Ok (record { variable = n; on = x; off = y }))))
+  together v a b = and_then v (λ n. and_then a (λ x. and_then b (λ y. Ok (record { variable = n; on = x; off = y }))))
 
   -- where the form is right, the number must be a chance's, as for the call weigh
   abbrev pub of_chance : Roles → ℕ → Said (Weighing F) → Result (Weighing F) Fault
   of_chance rs line (Err r) = Err (in_text r line)
-  of_chance rs line (Ok w) = cond (no_chance rs w.variable).0 (Err (WeightLine line)) (Ok w)
+  of_chance rs line (Ok w) = if (no_chance rs w.variable).0 then Err (WeightLine line) else Ok w
 
   -- a kind's weights are read by `reading`
   module _ (reading : List ℕ → Option F) where
@@ -87,7 +87,7 @@ with_ones one n sheet = overwritten (replicate (2 * n) one) sheet
 module _ {F : Type 0} (reading : List ℕ → Option F) (rs : Roles) where
   -- from the line of this number on: each line writes its two weights, and the first refusal ends the reading
   unfoldable pub weight_lines_say : List F → (line : ℕ) → List (List ℕ) → (closed : Bool) → WeightReading F
-  weight_lines_say sheet line [] closed = cond closed (read sheet) (refused sheet (in_text reason.Line line))
+  weight_lines_say sheet line [] closed = if closed then read sheet else refused sheet (in_text reason.Line line)
   weight_lines_say sheet line (l ∷ ls) closed =
       elim (weight_line_says reading rs line l) [
         | Ok w ↦ weight_lines_say (weighed sheet w.variable w.on w.off) (line + 1) ls closed
@@ -97,8 +97,8 @@ module _ {F : Type 0} (reading : List ℕ → Option F) (rs : Roles) where
   -- a sheet that is long enough is filled with ones first
   unfoldable pub weights_say : (one : F) → List F → List ℕ → WeightReading F
   weights_say one sheet bytes =
-      cond (short_sheet rs (length sheet)).0 (refused sheet ShortSheet)
-      (weight_lines_say (with_ones one (length rs) sheet) 1 (lines bytes) (is_closed bytes))
+      if (short_sheet rs (length sheet)).0 then refused sheet ShortSheet
+      else weight_lines_say (with_ones one (length rs) sheet) 1 (lines bytes) (is_closed bytes)
 
 -- What an accepted text comes to.
 
@@ -106,7 +106,7 @@ module _ {F : Type 0} (R : Semiring F) (reading : List ℕ → Option F) where
   -- a weight of variable v after a line: the line's, if it is of v
   abbrev pub by_line : (v : ℕ) → Bool → F → Said (Weighing F) → F
   by_line v b x (Err r) = x
-  by_line v b x (Ok w) = cond (w.variable == v) (cond b w.on w.off) x
+  by_line v b x (Ok w) = if w.variable == v then (if b then w.on else w.off) else x
 
   -- and after some lines: that of the last line of v, or what it was before them
   abbrev pub by_lines : (v : ℕ) → Bool → F → List (List ℕ) → F

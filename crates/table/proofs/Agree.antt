@@ -1,4 +1,4 @@
--- What the sets of the nodes before a node say of it is what the circuit says. Assumes nothing.
+-- What the sets of the nodes before a node say of it is what the circuit says.
 use Rattle.std.specs.List.{list_all, list_any}
 use Rattle.std.proofs.Common.{◌≡◌, ℕ, ◌<◌, ◌≤◌, Bool, true, false, cond, ◌&&◌, ◌||◌, eqb, ltb, List, [], ◌∷◌, length, get_or, take, None, Option, sym, refl, ap, ◌∙◌, ap₂, arith}
 use mathlib.Core.Path.{fun_ext}

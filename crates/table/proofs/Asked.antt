@@ -1,4 +1,4 @@
--- What a checked table says of its nodes and variables. Assumes nothing.
+-- What a checked table says of its nodes and variables.
 use Rattle.std.proofs.Common.{◌≡◌, ℕ, suc, ◌-◌, ◌<◌, ◌≤◌, true, false, List, map, length, get_or, replicate, sym, ap, ◌∙◌, inl, inr, arith}
 use Rattle.std.proofs.lemmas.List.{get_or_past, get_or_append_left, get_or-map, length-map, length-take}
 use Rattle.std.proofs.lemmas.Bool.{cases_Bool, both_ways}

@@ -1,4 +1,4 @@
--- Sets as the bits of a number: what is in a set, and sets made variable by variable. Assumes nothing.
+-- Sets as the bits of a number: what is in a set, and sets made variable by variable.
 use Rattle.std.proofs.Common.{◌≡◌, ℕ, zero, suc, ◌+◌, ◌-◌, ◌*◌, ◌/◌, ◌%◌, ◌^◌, ◌<◌, ◌≤◌, min, max, Bool, true, false, cond, not, ◌&&◌, eqb, List, [], ◌∷◌, length, map, get_or, reverse, sym, refl, ap, ap₂, ◌∙◌, arith, add-zero, pow-suc, pow_mono, zero-mul, suc-mul}
 use lib.Bits.{bit_and, bit_or, or_step}
 use Rattle.std.specs.Int.{bit_at}

@@ -1,4 +1,4 @@
--- The set of the chances. Assumes nothing.
+-- The set of the chances.
 use Rattle.std.proofs.Common.{◌≡◌, ℕ, ◌+◌, ◌*◌, List, map, reverse, ◌≤◌, Bool, true, false, cond, not, ◌&&◌, eqb, [], ◌∷◌, length, refl, ap, ◌∙◌, ap₂, arith}
 use lib.Bits.{bit_and}
 use Rattle.std.proofs.Math.Bool.{and-true}

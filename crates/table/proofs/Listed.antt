@@ -1,4 +1,4 @@
--- Elements of a list, and what tests of all or some of them decide. Assumes nothing.
+-- Elements of a list, and what tests of all or some of them decide.
 use Rattle.std.proofs.Common.{◌≡◌, Bool, true, false, ◌&&◌, ◌||◌, List, [], ◌∷◌, Decides, sym, refl, subst, ap₂, inl, inr}
 use Rattle.std.specs.List.{AllByRecursion, list_all, list_any}
 use Rattle.std.proofs.lemmas.Bool.{false≢true, or_left, or_right, or_cases}

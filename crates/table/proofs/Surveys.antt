@@ -1,4 +1,4 @@
--- The check, node by node. Assumes nothing.
+-- The check, node by node.
 use Rattle.std.specs.List.{list_all}
 use Rattle.std.proofs.Common.{◌≡◌, ℕ, ◌+◌, ◌-◌, ◌<◌, ◌≤◌, ◌⊎◌, inl, inr, true, false, cond, eqb, List, ◌++◌, map, length, get_or, take, drop, set, replicate, Some, None, Ok, Err, Option, sym, ap, ◌∙◌, ap₂, arith}
 use lib.Bits.{bit_and}

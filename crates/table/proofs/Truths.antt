@@ -1,4 +1,4 @@
--- A node's truth and what it mentions, from its children. Assumes nothing.
+-- A node's truth and what it mentions, from its children.
 use Rattle.std.proofs.Common.{◌≡◌, ℕ, Bool, true, false, ◌||◌, List, get_or, sym, refl, ap, ◌∙◌, ap₂, inl, inr, true≢false}
 use mathlib.Core.Path.{fun_ext}
 use Rattle.std.proofs.lemmas.Bool.{false≢true, or_left, or_right, or_cases, eqb-true, eq-eqb}

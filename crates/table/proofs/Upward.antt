@@ -1,4 +1,4 @@
--- What `upward` gives at each node, where a node's children come before it. Assumes nothing.
+-- What `upward` gives at each node, where a node's children come before it.
 use Rattle.std.proofs.Common.{◌≡◌, ℕ, zero, suc, ◌+◌, ◌-◌, ◌<◌, ◌≤◌, List, [], ◌∷◌, ◌++◌, length, get_or, take, drop, sym, refl, ap, ◌∙◌, ⊎_elim, not-suc-le-zero, zero-add, arith}
 use Rattle.std.proofs.lemmas.List.{get_or_past, get_or-take, get_or_push, length-append, length-take-le, take_all, take-append-drop, take-append-le, take_more}
 use Rattle.std.proofs.lemmas.Bool.{cases_lt}

@@ -1,4 +1,4 @@
--- What the check's yes gives. Assumes nothing.
+-- What the check's yes gives.
 use Rattle.std.proofs.Common.{◌≡◌, ℕ, Bool, true, false, cond, ◌&&◌, leb, List, length, is_ok, Ok, Err, Decides, Result, sym, refl, ap, ◌∙◌, arith}
 use Rattle.text.specs.declared.record.Node.{Node}
 use Rattle.text.specs.declared.record.Variables.{Variables}

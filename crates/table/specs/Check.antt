@@ -1,5 +1,5 @@
--- What the check answers. Assumes nothing.
-use Rattle.std.specs.Prelude.{ℕ, ◌+◌, Bool, cond, ◌&&◌, List, length, Ok, Err, Result, nat_le}
+-- What the check answers.
+use Rattle.std.specs.Prelude.{ℕ, ◌+◌, Bool, ◌&&◌, List, length, Ok, Err, Result, nat_le, if◌then◌else◌}
 use Rattle.text.specs.Format.{listed, option_count}
 use Rattle.text.specs.declared.fault.Fault.TheVariants as text_fault
 use Rattle.text.specs.declared.fault.Reason.TheVariants as reason
@@ -29,8 +29,8 @@ answer_by rs ss (flawed f i) = Err (fault.Node f i)
 -- what the check answers: the limits come first, with the reader's refusals, then the circuit
 unfoldable pub check_says : Variables → List Node → List ℕ → Result Mentions Fault
 check_says vs ns cs =
-    cond (counts_within vs ns)
-    (cond (options_within vs)
-    (answer_by (roles_of vs) (shapes cs ns) (verdict (roles_of vs) (shapes cs ns)))
-    (Err (fault.Text (text_fault.Line reason.Variable (vs.count + 1)))))
-    (Err (fault.Text (text_fault.Line reason.Limit 1)))
+    if counts_within vs ns
+    then (if options_within vs
+    then answer_by (roles_of vs) (shapes cs ns) (verdict (roles_of vs) (shapes cs ns))
+    else Err (fault.Text (text_fault.Line reason.Variable (vs.count + 1))))
+    else Err (fault.Text (text_fault.Line reason.Limit 1))

@@ -1,21 +1,21 @@
--- A selection's figure: the weighted model count. Assumes nothing.
-use Rattle.std.specs.Prelude.{ℕ, ◌-◌, ◌*◌, Bool, true, false, cond, List, [], ◌∷◌, ◌==◌, slice_index_or}
+-- A selection's figure: the weighted model count.
+use Rattle.std.specs.Prelude.{ℕ, ◌-◌, ◌*◌, Bool, true, false, List, [], ◌∷◌, ◌==◌, slice_index_or, if◌then◌else◌}
 use Rattle.kinds.specs.Semiring.{Semiring}
 use Rattle.table.specs.Circuit.{Shape, World, satisfied}
 
 -- the world w with one variable set
 abbrev pub put : World → ℕ → Bool → World
-put w v b = λ x. cond (x == v) b (w x)
+put w v b = λ x. if x == v then b else w x
 
 module _ {F : Type 0} (R : Semiring F) where
   -- the sum of f over every setting of the variables vs, the others as in w
-  unfoldable pub over : List ℕ → World → (World → F) → F
-  over [] w f = f w
-  over (v ∷ vs) w f = R.sum (over vs (put w v true) f) (over vs (put w v false) f)
+  unfoldable pub sum_over : List ℕ → World → (World → F) → F
+  sum_over [] w f = f w
+  sum_over (v ∷ vs) w f = R.sum (sum_over vs (put w v true) f) (sum_over vs (put w v false) f)
 
   -- the weight of a side of variable v: the on weight stands at place 2v-2 of the sheet, the off weight at 2v-1
   abbrev pub weight : List F → ℕ → Bool → F
-  weight sheet v b = slice_index_or sheet (cond b (2 * v - 2) (2 * v - 1)) R.zero
+  weight sheet v b = slice_index_or sheet (if b then 2 * v - 2 else 2 * v - 1) R.zero
 
   -- the product of a scenario's weights
   unfoldable pub scenario_weight : List F → List ℕ → World → F
@@ -24,4 +24,4 @@ module _ {F : Type 0} (R : Semiring F) where
 
   -- the sum, over the scenarios that make the root true with the options as in w, of the product of the scenario's weights
   unfoldable pub figure : List Shape → List ℕ → List F → World → F
-  figure ss chances sheet w = over chances w (λ u. cond (satisfied ss u) (scenario_weight sheet chances u) R.zero)
+  figure ss chances sheet w = sum_over chances w (λ u. if satisfied ss u then scenario_weight sheet chances u else R.zero)

@@ -1,4 +1,4 @@
--- The refusals of a table: each fault's number, place and layer. Assumes nothing.
+-- The refusals of a table: each fault's number, place and layer.
 use Rattle.std.specs.Prelude.{ℕ}
 use Rattle.text.specs.Faults as text
 use Rattle.text.specs.declared.fault.Layer.{Layer}

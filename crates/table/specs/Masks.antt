@@ -1,5 +1,5 @@
--- What the check computes of a node from the sets of the nodes before it. Assumes nothing.
-use Rattle.std.specs.Prelude.{◌≡◌, ℕ, ◌+◌, ◌-◌, ◌*◌, ◌^◌, Bool, true, false, cond, not, ◌&&◌, List, [], ◌∷◌, ◌++◌, map, replicate, length, None, Option, ◌==◌, bit_and, bit_or, nat_lt, slice_index_or}
+-- What the check computes of a node from the sets of the nodes before it.
+use Rattle.std.specs.Prelude.{◌≡◌, ℕ, ◌+◌, ◌-◌, ◌*◌, ◌^◌, Bool, true, false, not, ◌&&◌, List, [], ◌∷◌, ◌++◌, map, replicate, length, None, Option, ◌==◌, bit_and, bit_or, nat_lt, slice_index_or, if◌then◌else◌}
 use Rattle.std.specs.List.{list_all}
 use Rattle.text.specs.declared.record.Form.{Form}
 use Rattle.text.specs.declared.record.Form.TheVariants.{Literal}
@@ -26,7 +26,7 @@ OptionSet rs set = (v : ℕ) → known 64 v ≡ true → has_bit v set ≡ is_op
 -- the set of the chances
 unfoldable pub chance_mask : Roles → ℕ
 chance_mask [] = 0
-chance_mask (r ∷ rs) = chance_mask rs * 2 + cond r 0 1
+chance_mask (r ∷ rs) = chance_mask rs * 2 + (if r then 0 else 1)
 
 -- the sets of a node of which nothing is known
 abbrev pub nothing : NodeSets
@@ -44,7 +44,7 @@ no_record = record { form = Literal 0 false; first = 0; count = 0 }
 
 -- a literal mentions its variable, and has its own literal
 abbrev pub literal_sets : ℕ → Bool → NodeSets
-literal_sets v on = record { mentions = bit v; on = cond on (bit v) 0; off = cond on 0 (bit v) }
+literal_sets v on = record { mentions = bit v; on = if on then bit v else 0; off = if on then 0 else bit v }
 
 -- an and mentions what its children mention, and has their literals if they are literals: `seen`, with one child more
 abbrev pub with_child : NodeSets → Form → NodeSets → NodeSets

@@ -1,5 +1,5 @@
--- The circuit that node records and the child store hold. Assumes nothing.
-use Rattle.std.specs.Prelude.{ℕ, ◌+◌, cond, List, [], ◌∷◌, map, length, take, drop, nat_le, slice_index_or}
+-- The circuit that node records and the child store hold.
+use Rattle.std.specs.Prelude.{ℕ, ◌+◌, List, [], ◌∷◌, map, length, take, drop, nat_le, slice_index_or, if◌then◌else◌}
 use Rattle.text.specs.declared.record.Form.{Form}
 use Rattle.text.specs.declared.record.Form.TheVariants.{Literal, And, Fork, True, False}
 use Rattle.text.specs.declared.record.Node.{Node}
@@ -14,7 +14,7 @@ no_node = 65535
 
 -- the children of an and: its stretch of the store
 abbrev pub stretch : List ℕ → ℕ → ℕ → List ℕ
-stretch store first count = cond (nat_le (first + count) (length store)) (take count (drop first store)) (no_node ∷ [])
+stretch store first count = if nat_le (first + count) (length store) then take count (drop first store) else no_node ∷ []
 
 -- the node that a record of this form stands for
 abbrev pub shape_by : List ℕ → ℕ → ℕ → Form → Shape

@@ -1,12 +1,12 @@
--- Sets of variables as numbers: bit v - 1 stands for variable v. Assumes nothing.
-use Rattle.std.specs.Prelude.{ℕ, zero, suc, ◌+◌, ◌-◌, ◌*◌, cond, List, ◌++◌, map, length, replicate}
+-- Sets of variables as numbers: bit v - 1 stands for variable v.
+use Rattle.std.specs.Prelude.{ℕ, zero, suc, ◌+◌, ◌-◌, ◌*◌, List, ◌++◌, map, length, replicate, if◌then◌else◌}
 use Rattle.table.specs.Circuit.{Shape, Vars, mentions}
 use Rattle.table.specs.declared.mentions.Mentions.{Mentions}
 
 -- the variables i to i + k - 1 of a set, the lowest bit first
 unfoldable pub packed : ℕ → Vars → ℕ → ℕ
 packed i m zero = 0
-packed i m (suc k) = packed (i + 1) m k * 2 + cond (m i) 1 0
+packed i m (suc k) = packed (i + 1) m k * 2 + (if m i then 1 else 0)
 
 -- the variables 1 to n of a set
 abbrev pub mask : ℕ → Vars → ℕ

@@ -1,5 +1,5 @@
--- Which circuits are sound: the refusals of a node, and the first that fits. Assumes nothing.
-use Rattle.std.specs.Prelude.{ℕ, ◌+◌, ◌-◌, Bool, true, false, cond, not, ◌&&◌, List, [], ◌∷◌, length, Some, None, Option, ◌==◌, nat_le, nat_lt, slice_index_or}
+-- Which circuits are sound: the refusals of a node, and the first that fits.
+use Rattle.std.specs.Prelude.{ℕ, ◌+◌, ◌-◌, Bool, true, false, not, ◌&&◌, List, [], ◌∷◌, length, Some, None, Option, ◌==◌, nat_le, nat_lt, slice_index_or, if◌then◌else◌}
 use Rattle.std.specs.List.{list_all, list_any, range_with_len}
 use Rattle.table.specs.declared.fault.Flaw.{Flaw}
 use Rattle.table.specs.declared.fault.Flaw.TheVariants as flaw
@@ -12,12 +12,12 @@ Roles = List Bool
 -- whether variable v is an option
 abbrev pub is_option : Roles → ℕ → Bool
 is_option [] v = false
-is_option (r ∷ rs) v = cond (v == 1) r (is_option rs (v - 1))
+is_option (r ∷ rs) v = if v == 1 then r else is_option rs (v - 1)
 
 -- the numbers of those variables, from number i on, whose role is b
 abbrev pub from : ℕ → Bool → Roles → List ℕ
 from i b [] = []
-from i b (r ∷ rs) = cond (same r b) (i ∷ from (i + 1) b rs) (from (i + 1) b rs)
+from i b (r ∷ rs) = if same r b then i ∷ from (i + 1) b rs else from (i + 1) b rs
 
 -- the options and the chances, by rising number
 abbrev pub options : Roles → List ℕ
@@ -69,7 +69,7 @@ known n v = nat_lt 0 v && nat_le v n
 
 -- a flaw unless a test holds, else what follows
 abbrev pub unless : Bool → Flaw → Option Flaw → Option Flaw
-unless ok f rest = cond ok rest (Some f)
+unless ok f rest = if ok then rest else Some f
 
 -- a circuit is sound, or a node has a flaw
 pub data Verdict : Type 0 where
@@ -100,7 +100,7 @@ module _ (rs : Roles) (ss : List Shape) where
 
   -- the first flaw of the nodes in order, from node i on; the root, which is last, must mention every chance
   unfoldable pub verdict_from : List Vars → ℕ → List Shape → Verdict
-  verdict_from ms i [] = cond (list_all (slice_index_or ms (length ss - 1) none) (chances rs)) sound (flawed flaw.Missing (length ss - 1))
+  verdict_from ms i [] = if list_all (slice_index_or ms (length ss - 1) none) (chances rs) then sound else flawed flaw.Missing (length ss - 1)
   verdict_from ms i (x ∷ xs) = flaw_first i (flaw_at ms i x) (verdict_from ms (i + 1) xs)
 
   -- the circuit is sound, or its first flaw

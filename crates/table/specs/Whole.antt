@@ -1,4 +1,4 @@
--- What a table holds. Assumes nothing.
+-- What a table holds.
 use Rattle.std.specs.Prelude.{List}
 use Rattle.table.specs.declared.table.Table.{Table}
 use Rattle.table.specs.Circuit.{Shape}

@@ -1,11 +1,11 @@
--- What an accepted header line says of its counts. Assumes nothing.
+-- What an accepted header line says of its counts.
 use Rattle.std.proofs.Common.{◌≡◌, ℕ, ◌≤◌, Bool, true, false, ◌&&◌, leb, List, [], ◌∷◌, Ok, Err, Result, sym, refl, ap, subst, arith}
 use Rattle.std.specs.Result.{MatchResult, IsErrAnd}
 use Rattle.std.proofs.lemmas.Bool.{and_parts, leb-true}
 use Rattle.text.specs.declared.fault.Reason.{Reason}
 use Rattle.text.specs.declared.fault.Reason.TheVariants as reason
 use Rattle.text.specs.declared.record.Header.{Header}
-use Rattle.text.specs.Format.{Said, Rooms, then, provided, number_field, within_limits, header_of, header_says}
+use Rattle.text.specs.Format.{Said, Rooms, and_then, provided, number_field, within_limits, header_of, header_says}
 
 pub never : {A : Type 0} {X : Type 0} (r : Reason) (x : A) → ◌≡◌ {A = Said A} (Err r) (Ok x) → X
 never r x e = let z : ◌≡◌ {A = ℕ} 0 1 = cc in absurd (omega arith)
@@ -20,7 +20,7 @@ pub provided_ok : {A : Type 0} (b : Bool) (r : Reason) (s : Said A) (x : A) → 
 provided_ok true r s x e = (refl, e)
 provided_ok false r s x e = never r x e
 
-pub then_ok : {A B : Type 0} (s : Said A) (f : A → Said B) (y : B) → then s f ≡ Ok y → (x : A) × (s ≡ Ok x) × (f x ≡ Ok y)
+pub then_ok : {A B : Type 0} (s : Said A) (f : A → Said B) (y : B) → and_then s f ≡ Ok y → (x : A) × (s ≡ Ok x) × (f x ≡ Ok y)
 then_ok (Ok x) f y e = (x, refl, e)
 then_ok (Err r) f y e = never r y e
 

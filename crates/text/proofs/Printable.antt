@@ -1,4 +1,4 @@
--- The names of an accepted file are printable. Assumes nothing.
+-- The names of an accepted file are printable.
 use Rattle.std.proofs.Common.{◌≡◌, ℕ, zero, suc, ◌+◌, ◌≤◌, min, Bool, true, false, cond, not, ◌&&◌, eqb, leb, List, [], ◌∷◌, ◌++◌, length, take, replicate, Ok, Err, Result, refl, ap, ◌∙◌, subst, arith}
 use Rattle.std.specs.List.{onto_first, list_all}
 use Rattle.std.specs.Option.{ok_or}

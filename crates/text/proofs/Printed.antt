@@ -1,4 +1,4 @@
--- Texts made of lines, and the text of a name. Assumes nothing.
+-- Texts made of lines, and the text of a name.
 use Rattle.std.proofs.Common.{◌≡◌, ℕ, suc, ◌+◌, ◌-◌, ◌<◌, ◌≤◌, List, [], ◌∷◌, ◌++◌, length, IsAscii, Ok, Err, Result, sym, refl, ap, ◌∙◌, ap₂, subst, ◌⊎◌, ⊎_elim, arith, append_assoc}
 use Rattle.std.proofs.lemmas.List.{append-nil, nil_from_length}
 use Rattle.std.proofs.lemmas.Str.{IsUtf8-from_ascii}

@@ -1,4 +1,4 @@
--- The three fields behind the first, and how many variables are options. Assumes nothing.
+-- The three fields behind the first, and how many variables are options.
 use Rattle.std.proofs.Common.{◌≡◌, ℕ, ◌≤◌, List, [], ◌∷◌, length, get_or, drop, refl, arith}
 use Rattle.std.proofs.lemmas.List.Sums.{length-filter, count_by-le-length}
 use Rattle.text.specs.declared.record.Variable.{Variable}

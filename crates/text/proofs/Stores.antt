@@ -1,4 +1,4 @@
--- What the lines leave in the stores. Assumes nothing.
+-- What the lines leave in the stores.
 use Rattle.std.proofs.Common.{◌≡◌, ℕ, ◌+◌, ◌<◌, ◌≤◌, true, false, leb, List, [], ◌∷◌, ◌++◌, map, length, get_or, take, drop, set, Ok, Err, sym, ap, ◌∙◌, ap₂, zero-add, arith}
 use Rattle.std.specs.List.{enumerate_from}
 use Rattle.std.proofs.lemmas.List.Edits.{sets}
@@ -8,7 +8,7 @@ use Rattle.std.proofs.lemmas.Bool.{and_parts, leb-true, cond-true, cond-false}
 use Rattle.text.specs.declared.fault.Reason.TheVariants as reason
 use Rattle.text.specs.declared.progress.Progress.{Progress}
 use Rattle.text.specs.declared.record.Node.{Node}
-use Rattle.text.specs.Format.{number_or_zero, Said, NodeEntry, Sofar, listed, then, provided, fitting, with_node}
+use Rattle.text.specs.Format.{number_or_zero, Said, NodeEntry, Sofar, listed, and_then, provided, fitting, with_node}
 use Rattle.text.specs.Steps.{written_at, sofar, Taken}
 
 -- the item n of an enumeration
@@ -45,7 +45,7 @@ module _ (p : Progress) (size : ℕ) (e : NodeEntry) (due : p.nodes < p.header.n
       ap₂ (λ i j. fitting p.header i j (length e.children)) (length-take-le p.nodes p.node_store.now n) (length-take-le p.children p.child_store.now c)
 
   abbrev said_node : Said NodeEntry → Said Sofar
-  said_node said = then said (λ x. provided (fitting p.header (length (take p.nodes p.node_store.now)) (length (take p.children p.child_store.now)) (length x.children)) reason.Children (Ok (with_node (sofar p) size x)))
+  said_node said = and_then said (λ x. provided (fitting p.header (length (take p.nodes p.node_store.now)) (length (take p.children p.child_store.now)) (length x.children)) reason.Children (Ok (with_node (sofar p) size x)))
 
   pub node_refused : (said : Said NodeEntry) → said ≡ Ok e → fitting p.header p.nodes p.children (length e.children) ≡ false → said_node said ≡ Err reason.Children
   node_refused said is no-fit = ap said_node is ∙ cond-false _ _ _ (measured ∙ no-fit)

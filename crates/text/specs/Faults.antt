@@ -1,4 +1,4 @@
--- The refusals 1 to 7: each fault's number and place. Assumes nothing.
+-- The refusals 1 to 7: each fault's number and place.
 use Rattle.std.specs.Prelude.{ℕ}
 use Rattle.text.specs.declared.fault.Reason.{Reason}
 use Rattle.text.specs.declared.fault.Reason.TheVariants as reason

@@ -1,8 +1,8 @@
--- What a table file says, or the first refusal that fits. Assumes nothing.
+-- What a table file says, or the first refusal that fits.
 --
 -- A file is a list of lines, a line a list of fields. Each line is judged by what the lines before it said: first
 -- comes the header, then a line for each variable, then a line for each node.
-use Rattle.std.specs.Prelude.{◌≡◌, ℕ, ◌+◌, min, Bool, true, false, cond, not, ◌&&◌, ◌||◌, List, [], ◌∷◌, ◌++◌, map, filter, length, take, drop, replicate, is_some, Some, None, Ok, Err, codes, Option, Result, ◌==◌, nat_le, nat_lt}
+use Rattle.std.specs.Prelude.{◌≡◌, ℕ, ◌+◌, min, Bool, true, false, not, ◌&&◌, ◌||◌, List, [], ◌∷◌, ◌++◌, map, filter, length, take, drop, replicate, is_some, Some, None, Ok, Err, codes, Option, Result, ◌==◌, nat_le, nat_lt, if◌then◌else◌}
 use Rattle.std.proofs.Math.Nat.{min-le_right}
 use Rattle.std.specs.List.{list_any, list_all}
 use Rattle.std.specs.Option.{ok_or, option_map, unwrap_or}
@@ -33,13 +33,13 @@ abbrev pub Said : Type 0 → Type 0
 Said A = Result A Reason
 
 -- one part after the other: the first reason wins
-abbrev pub then : {A B : Type 0} → Said A → (A → Said B) → Said B
-then (Ok a) next = next a
-then (Err r) next = Err r
+abbrev pub and_then : {A B : Type 0} → Said A → (A → Said B) → Said B
+and_then (Ok a) next = next a
+and_then (Err r) next = Err r
 
 -- what is said if a test holds, else the reason
 abbrev pub provided : {A : Type 0} → Bool → Reason → Said A → Said A
-provided b r said = cond b said (Err r)
+provided b r said = if b then said else Err r
 
 -- the record of a name; a field that follows the rules has at most 24 bytes
 abbrev pub name_of : List ℕ → Name
@@ -86,7 +86,7 @@ header_of v n c = record { variables = v; nodes = n; children = c }
 -- the header line: the counts of variables, nodes and children
 unfoldable pub header_says : Rooms → List (List ℕ) → Said Header
 header_says rooms (a ∷ b ∷ c ∷ []) =
-    then (number_field a) (λ v. then (number_field b) (λ n. then (number_field c) (λ k.
+    and_then (number_field a) (λ v. and_then (number_field b) (λ n. and_then (number_field c) (λ k.
     provided (within_limits v n k) reason.Limit
     (provided (nat_le n rooms.nodes && nat_le k rooms.children) reason.Store
     (Ok (header_of v n k))))))
@@ -94,7 +94,7 @@ header_says rooms fs = Err reason.Line
 
 -- E for an option, R for a chance
 abbrev pub role_of : List ℕ → Option Role
-role_of f = cond (bytes_eq f (codes "E")) (Some role.Option) (cond (bytes_eq f (codes "R")) (Some role.Chance) None)
+role_of f = if bytes_eq f (codes "E") then Some role.Option else (if bytes_eq f (codes "R") then Some role.Chance else None)
 
 -- whether one of the variables has this name
 abbrev pub is_named : List ℕ → List Variable → Bool
@@ -113,12 +113,12 @@ option_count vs = length (filter (λ v. is_option_role v.role) vs)
 abbrev pub follows_rules : List Variable → ℕ → Role → List ℕ → Bool
 follows_rules before number r name =
     (number == length before + 1) && (nat_le 1 (length name) && nat_le (length name) 24)
-    && not (is_named name before) && nat_le (option_count before + cond (is_option_role r) 1 0) 20
+    && not (is_named name before) && nat_le (option_count before + (if is_option_role r then 1 else 0)) 20
 
 -- a variable line, after the variables before it: its number, its role, its name
 unfoldable pub variable_says : List Variable → List (List ℕ) → Said Variable
 variable_says before (a ∷ b ∷ c ∷ []) =
-    then (number_field a) (λ n. then (ok_or (role_of b) reason.Variable) (λ r.
+    and_then (number_field a) (λ n. and_then (ok_or (role_of b) reason.Variable) (λ r.
     provided (follows_rules before n r c) reason.Variable
     (Ok (record { role = r; name = name_of c }))))
 variable_says before fs = Err reason.Line
@@ -138,7 +138,7 @@ literal_of on o = option_map (λ v. Literal v on) o
 -- a literal: a variable's number, with a minus sign, 45, in front for off
 abbrev pub literal : List ℕ → Option Form
 literal [] = None
-literal (b ∷ bs) = cond (b == 45) (literal_of false (number bs)) (literal_of true (number (b ∷ bs)))
+literal (b ∷ bs) = if b == 45 then literal_of false (number bs) else literal_of true (number (b ∷ bs))
 
 abbrev pub is_number : List ℕ → Bool
 is_number f = is_some (number f)
@@ -157,9 +157,9 @@ leaf_says form fs = Err reason.Line
 
 -- a node line: a literal, an and with its children, a fork with its variable and its two branches, true, false
 unfoldable pub node_says : Kind → List (List ℕ) → Said NodeEntry
-node_says kind.Literal (f ∷ []) = then (ok_or (literal f) reason.Number) (λ form. Ok (node_entry form []))
-node_says kind.And (f ∷ fs) = then (numbers (f ∷ fs)) (λ cs. Ok (node_entry And cs))
-node_says kind.Fork (v ∷ a ∷ b ∷ []) = then (number_field v) (λ n. then (numbers (a ∷ b ∷ [])) (λ cs. Ok (node_entry (Fork n) cs)))
+node_says kind.Literal (f ∷ []) = and_then (ok_or (literal f) reason.Number) (λ form. Ok (node_entry form []))
+node_says kind.And (f ∷ fs) = and_then (numbers (f ∷ fs)) (λ cs. Ok (node_entry And cs))
+node_says kind.Fork (v ∷ a ∷ b ∷ []) = and_then (number_field v) (λ n. and_then (numbers (a ∷ b ∷ [])) (λ cs. Ok (node_entry (Fork n) cs)))
 node_says kind.True fs = leaf_says True fs
 node_says kind.False fs = leaf_says False fs
 node_says k fs = Err reason.Line
@@ -181,7 +181,7 @@ nothing_yet = record { header = header_of 0 0 0; variables = []; nodes = []; chi
 
 -- the section that the next line belongs to, after so many variables
 abbrev pub section_at : Header → (line variables : ℕ) → Section
-section_at h line variables = cond (line == 1) section.Header (cond (nat_lt variables h.variables) section.Variables section.Nodes)
+section_at h line variables = if line == 1 then section.Header else (if nat_lt variables h.variables then section.Variables else section.Nodes)
 
 -- whether every line that is due has been read, by the header and the number of the next line, of variables and of nodes
 abbrev pub all_read : Header → (line variables nodes : ℕ) → Bool
@@ -195,8 +195,8 @@ fitting h nodes used count = nat_le (used + count) h.children && (nat_lt (nodes 
 -- what a line is by its letter: G, V, L, A, O, T or F
 abbrev pub by_letter : ℕ → Kind
 by_letter b =
-    cond (b == 71) kind.Header (cond (b == 86) kind.Variable (cond (b == 76) kind.Literal (cond (b == 65) kind.And
-    (cond (b == 79) kind.Fork (cond (b == 84) kind.True (cond (b == 70) kind.False kind.Other))))))
+    if b == 71 then kind.Header else (if b == 86 then kind.Variable else (if b == 76 then kind.Literal else (if b == 65 then kind.And
+    else (if b == 79 then kind.Fork else (if b == 84 then kind.True else (if b == 70 then kind.False else kind.Other))))))
 
 -- what a line is by its first field, which is one letter
 abbrev pub kind_of : List ℕ → Kind
@@ -219,9 +219,9 @@ with_node s size e = record { header = s.header; variables = s.variables; nodes 
 
 -- what a line of `size` bytes says, by the section that it belongs to and its kind
 abbrev pub by_section : Rooms → Sofar → (size : ℕ) → Section → Kind → List (List ℕ) → Said Sofar
-by_section rooms s size section.Header kind.Header fs = then (header_says rooms fs) (λ h. Ok (with_header s size h))
-by_section rooms s size section.Variables kind.Variable fs = then (variable_says s.variables fs) (λ v. Ok (with_variable s size v))
-by_section rooms s size section.Nodes k fs = then (node_says k fs) (λ e. provided (fitting s.header (length s.nodes) (length s.children) (length e.children)) reason.Children (Ok (with_node s size e)))
+by_section rooms s size section.Header kind.Header fs = and_then (header_says rooms fs) (λ h. Ok (with_header s size h))
+by_section rooms s size section.Variables kind.Variable fs = and_then (variable_says s.variables fs) (λ v. Ok (with_variable s size v))
+by_section rooms s size section.Nodes k fs = and_then (node_says k fs) (λ e. provided (fitting s.header (length s.nodes) (length s.children) (length e.children)) reason.Children (Ok (with_node s size e)))
 by_section rooms s size at k fs = Err reason.Line
 
 -- the first field says what the line is
@@ -256,16 +256,16 @@ is_complete s = all_read s.header s.line (length s.variables) (length s.nodes)
 
 -- what the lines from here on make of the file
 unfoldable pub read_on : Rooms → Sofar → List (List ℕ) → Reading
-read_on rooms s [] = cond (is_complete s) (accepted s) (refused s reason.Line)
+read_on rooms s [] = if is_complete s then accepted s else refused s reason.Line
 read_on rooms s (l ∷ ls) =
-    cond (is_complete s) (accepted s) (elim (line_says rooms s l) [ Ok t ↦ read_on rooms t ls | Err r ↦ refused s r ])
+    if is_complete s then accepted s else (elim (line_says rooms s l) [ Ok t ↦ read_on rooms t ls | Err r ↦ refused s r ])
 
 -- what a file says, which has 1 to 65536 bytes
 unfoldable pub file_says : Rooms → List ℕ → Reading
 file_says rooms bytes =
-    cond (nat_le 1 (length bytes) && nat_le (length bytes) 65536)
-    (read_on rooms nothing_yet (lines bytes))
-    (record { nodes = []; children = []; answer = Err fault.Length })
+    if nat_le 1 (length bytes) && nat_le (length bytes) 65536
+    then read_on rooms nothing_yet (lines bytes)
+    else (record { nodes = []; children = []; answer = Err fault.Length })
 
 -- as many nodes and children were read as the header says
 abbrev pub AsMany : Reading → Contents → Type 0

@@ -1,5 +1,5 @@
--- A text as lines, and a line as fields. Assumes nothing.
-use Rattle.std.specs.Prelude.{◌≡◌, ℕ, ◌+◌, ◌<◌, length, drop, Bool, false, cond, ◌&&◌, ◌||◌, List, [], ◌∷◌, ◌==◌, nat_le}
+-- A text as lines, and a line as fields.
+use Rattle.std.specs.Prelude.{◌≡◌, ℕ, ◌+◌, ◌<◌, length, drop, Bool, false, ◌&&◌, ◌||◌, List, [], ◌∷◌, ◌==◌, nat_le, if◌then◌else◌}
 use Rattle.std.specs.List.{list_all, slice_split}
 
 -- a byte that may stand in a line: a tab, or 32 to 126
@@ -14,7 +14,7 @@ onto b (p ∷ ps) = (b ∷ p) ∷ ps
 -- the lines of a text: each is what stands before a byte 10; what stands behind the last is none
 abbrev pub lines : List ℕ → List (List ℕ)
 lines [] = []
-lines (b ∷ bs) = cond (b == 10) ([] ∷ lines bs) (onto b (lines bs))
+lines (b ∷ bs) = if b == 10 then [] ∷ lines bs else onto b (lines bs)
 
 -- whether there is a first line, and each of its bytes may stand in a line
 abbrev pub first_printable : List (List ℕ) → Bool

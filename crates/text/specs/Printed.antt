@@ -1,4 +1,4 @@
--- Text that a program prints, as bytes. Assumes nothing.
+-- Text that a program prints, as bytes.
 use Rattle.std.specs.Prelude.{ℕ, ◌<◌, List, [], ◌∷◌, ◌++◌, length, codes, decimal, IsAscii, slice_index_or}
 use Rattle.text.specs.Format.{spelled}
 use Rattle.text.specs.declared.record.Variable.{Variable}

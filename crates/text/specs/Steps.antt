@@ -1,4 +1,4 @@
--- What the parts of the reader hold, in the words of the format. Assumes nothing.
+-- What the parts of the reader hold, in the words of the format.
 use Rattle.std.specs.Prelude.{◌≡◌, ℕ, ◌+◌, ◌≤◌, List, [], ◌∷◌, ◌++◌, map, length, take, drop, Ok, Err, Result}
 use Rattle.text.specs.declared.fault.Reason.{Reason}
 use Rattle.text.specs.declared.fault.Reason.TheVariants as reason

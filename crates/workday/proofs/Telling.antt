@@ -1,4 +1,4 @@
--- What is printed for a file, from what is printed for its parts. Assumes nothing.
+-- What is printed for a file, from what is printed for its parts.
 use Rattle.std.proofs.Common.{ℕ, List, IfOk, Result, sym, ap₂, subst}
 use Rattle.text.specs.declared.fault.Fault as text
 use Rattle.text.specs.declared.record.Contents.{Contents}

@@ -1,4 +1,4 @@
--- What the program prints for a refused file, as bytes. Assumes nothing.
+-- What the program prints for a refused file, as bytes.
 use Rattle.std.specs.Prelude.{◌≡◌, ℕ, List, ◌++◌, Some, None, Ok, Err, codes, Option, Result}
 use Rattle.parts.specs.Parts.{largest, read_from}
 use Rattle.text.specs.declared.fault.Fault as text

@@ -1,5 +1,5 @@
--- Refusals, calls and answers in words, as bytes. Assumes nothing.
-use Rattle.std.specs.Prelude.{ℕ, Bool, cond, List, [], ◌++◌, ◌==◌, Some, None, Ok, Err, codes, decimal, Option}
+-- Refusals, calls and answers in words, as bytes.
+use Rattle.std.specs.Prelude.{ℕ, Bool, List, [], ◌++◌, ◌==◌, Some, None, Ok, Err, codes, decimal, Option, if◌then◌else◌}
 use Rattle.text.specs.declared.fault.Reason.{Reason}
 use Rattle.text.specs.declared.fault.Reason.TheVariants as reason
 use Rattle.text.specs.declared.fault.Fault.TheVariants as text
@@ -73,7 +73,7 @@ refusal_words f =
     ++ (codes ": " ++ meaning_of f))))))
 
 abbrev pub side_word : Bool → List ℕ
-side_word on = cond on (codes "on") (codes "off")
+side_word on = if on then codes "on" else codes "off"
 
 -- a call, with the name of the variable that it is given
 abbrev pub call_words : List ℕ → Call Tally → List ℕ
@@ -100,9 +100,9 @@ answer_words names (Err f) = refusal_words f
 -- what a plant with so many options is too small for
 abbrev pub options_words : ℕ → List ℕ
 options_words n =
-    cond (n == 0) (codes "The plant has no option: none is held or tried.\n")
-    (cond (n == 1) (codes "The plant has no second option: none is tried.\n") [])
+    if n == 0 then codes "The plant has no option: none is held or tried.\n"
+    else (if n == 1 then codes "The plant has no second option: none is tried.\n" else [])
 
 -- what a plant with so many chances is too small for
 abbrev pub chances_words : ℕ → List ℕ
-chances_words n = cond (n == 0) (codes "The plant has no chance: no weight is revised.\n") []
+chances_words n = if n == 0 then codes "The plant has no chance: no weight is revised.\n" else []

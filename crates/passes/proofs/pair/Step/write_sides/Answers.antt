@@ -4,9 +4,9 @@ use Rattle.std.proofs.lemmas.List.{take_all}
 use Rattle.table.specs.Circuit.{mentions}
 use Rattle.table.specs.Facts.{Among, about}
 use Rattle.table.specs.Whole.{circuit, roles}
-use Rattle.passes.specs.Rows.{open_at, side_or_zero, sides_by, lower, lowest}
+use Rattle.passes.specs.Rows.{open_at, side_or_zero, sides_by, lower, least_in_row}
 use Rattle.passes.proofs.Chains.{filled}
-use Rattle.passes.proofs.Closed.{row_closed, lowest_closed}
+use Rattle.passes.proofs.Closed.{row_closed, least_closed}
 use Rattle.passes.proofs.Options.{option_there}
 use Rattle.passes.proofs.Rowing.{rowed_more}
 use Rattle.passes.proofs.Sets.{none_open}
@@ -20,7 +20,7 @@ is_open-requires g c =
     rw s.listed (option_there rs c.loop-j.j (subst (λ vs. c.loop-j.j < length vs) s.listed c.loop-j-test.true)).1
 
 pub loop-j-init : goal.loop-j-init
-loop-j-init g c = record { row = refl; lowest_is = refl }
+loop-j-init g c = record { row = refl; least_is = refl }
 
 pub loop-j-preserved : goal.loop-j-preserved
 loop-j-preserved g c =
@@ -52,7 +52,7 @@ returns-then-self-eq0 g c =
     let closed = λ (v : ℕ) (m : Among v s.options.now). none_open q s.node s.free s.set c.if-self-eq0.true v (subst (Among v) s.listed m) in
     record {
       row = ap (drop 1) (zeros ∙ ap (λ n. replicate n R.zero) long) ∙ sym (row_closed R (roles q.table.now) q.sheet.now q.holds.now.entries ss s.values.stride s.values.places.now s.node 0 s.options.now closed);
-      least = sym (lowest_closed R (roles q.table.now) q.sheet.now q.holds.now.entries ss s.values.stride s.values.places.now s.node _ s.options.now closed);
+      least = sym (least_closed R (roles q.table.now) q.sheet.now q.holds.now.entries ss s.values.stride s.values.places.now s.node _ s.options.now closed);
     }
 
 pub returns-clause-least : goal.returns-clause-least
@@ -62,4 +62,4 @@ returns-clause-least g c =
     let R = g.K.Figure.ring in
     let ss = circuit q.table.now in
     let side = side_or_zero R (mentions ss) s.values.stride s.values.places.now (roles q.table.now) q.holds.now.entries ss s.node in
-    c.loop-j.invariant.lowest_is ∙ ap (λ vs. lowest R (open_at q.holds.now.entries (about ss s.node)) (sides_by side 0 vs) None vs) (take_all c.loop-j.j s.options.now (omega (arith, c.loop-j-test.false)))
+    c.loop-j.invariant.least_is ∙ ap (λ vs. least_in_row R (open_at q.holds.now.entries (about ss s.node)) (sides_by side 0 vs) None vs) (take_all c.loop-j.j s.options.now (omega (arith, c.loop-j-test.false)))

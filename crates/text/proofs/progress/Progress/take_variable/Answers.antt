@@ -1,6 +1,6 @@
 use Rattle.std.proofs.Common.{◌≡◌, ◌≤◌, [], ◌∷◌, ◌++◌, length, Ok, sym, refl, ap, ◌∙◌, arith}
 use Rattle.std.proofs.lemmas.List.{length_push}
-use Rattle.text.specs.Format.{then, with_variable, listed, variables_of}
+use Rattle.text.specs.Format.{and_then, with_variable, listed, variables_of}
 use Rattle.text.specs.Steps.{sofar}
 use Rattle.text.proofs.Names.{listed_variables_of}
 use Rattle.text.proofs.progress.Progress.take_variable.Goals as goal
@@ -41,7 +41,7 @@ returns c =
     let same = (lists (goal.at.returns c).After-push).1 in
     record {
       moves = record {
-        says = ap (λ x. then x (λ w. Ok (with_variable (sofar s) size w))) (sym c.variable_line.ensures ∙ c.in_ok-variable.was)
+        says = ap (λ x. and_then x (λ w. Ok (with_variable (sofar s) size w))) (sym c.variable_line.ensures ∙ c.in_ok-variable.was)
             ∙ (λ i. Ok (record { header = next.header; variables = sym same i; nodes = next.nodes; children = next.children; line = next.line; place = next.place }));
         nodes = refl;
         children = refl;
