@@ -18,6 +18,7 @@ use Rattle.passes.specs.Passes.{times, value_at, count, counts}
 use Rattle.passes.specs.Ways.{made, indicator, sums, count_way}
 use Rattle.passes.proofs.Made.{equal, made_related, made_same, upward_made, count_made}
 use Rattle.passes.proofs.Splits.{Solves, Split, split_nodes}
+use Rattle.passes.specs.Problem.{Problem}
 
 some_none : {A : Type 0} (p : A → Bool) (xs : List A) → AllByRecursion (λ x. p x ≡ false) xs → list_any p xs ≡ false
 some_none p [] h = refl
@@ -133,16 +134,20 @@ module _ {F : Type 0} (R : Semiring F) (laws : Laws R) (sheet : List F) where
       | inr c ↦ rw (c, some_among (eqb v) (chances rs) v (role_listed rs false v known c) (eq-eqb v v refl)) refl
     ]
 
-    count_solves : (w : World) → Solves R ss (leaf (chances rs) w) (value_at R (counts R rs sheet ss w))
-    count_solves w i =
-        let x = value_at R (counts R rs sheet ss w) in
-        upward_made R (count_way R rs sheet w) (count R rs sheet w) (count_made R rs sheet w) ss proper.ordered i
-        ∙ made_related (equal R) x x (count_way R rs sheet w) (sums R (leaf (chances rs) w)) (node ss i)
-        (λ v on is. first_leaf w v on (proper.known_variables.0 i v on is)) (λ v a b _. ap₂ R.sum) (λ _. refl) (λ c _. refl)
+module _ {F : Type 0} (R : Semiring F) (laws : Laws R) (p : Problem F) (accepted : verdict p.roles p.circuit ≡ sound) where
+  abbrev proper : Proper p.roles p.circuit
+  proper = sound_proper p.roles p.circuit accepted
 
-pub counts_figure : {F : Type 0} (R : Semiring F) → Laws R → (rs : Roles) (ss : List Shape) (sheet : List F) → verdict rs ss ≡ sound → CountsFigure R rs ss sheet
-unfolding figure
-counts_figure R laws rs ss sheet accepted w =
-    let proper = sound_proper rs ss accepted in
-    root_last (count R rs sheet w) R.zero ss
-    ∙ root_figure R laws sheet rs ss proper (chances rs) (chances_distinct rs) (λ v m. m) w (value_at R (counts R rs sheet ss w)) (count_solves R laws sheet rs ss proper w)
+  count_solves : (w : World) → Solves R p.circuit (leaf R laws p.sheet (chances p.roles) w) (value_at R (counts R p w))
+  count_solves w i =
+      let x = value_at R (counts R p w) in
+      upward_made R (count_way R p w) (count R p w) (count_made R p w) p.circuit proper.ordered i
+      ∙ made_related (equal R) x x (count_way R p w) (sums R (leaf R laws p.sheet (chances p.roles) w)) (node p.circuit i)
+      (λ v on is. first_leaf R laws p.sheet p.roles p.circuit proper w v on (proper.known_variables.0 i v on is))
+      (λ v a b _. ap₂ R.sum) (λ _. refl) (λ c _. refl)
+
+  pub counts_figure : CountsFigure R p
+  unfolding figure
+  counts_figure w =
+      root_last (count R p w) R.zero p.circuit
+      ∙ root_figure R laws p.sheet p.roles p.circuit proper (chances p.roles) (chances_distinct p.roles) (λ v m. m) w (value_at R (counts R p w)) (count_solves w)

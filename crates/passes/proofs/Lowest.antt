@@ -3,7 +3,6 @@ use Rattle.std.proofs.Common.{◌≡◌, ℕ, ◌+◌, Bool, true, false, cond, 
 use Rattle.std.specs.List.{filter}
 use Rattle.kinds.specs.Semiring.{Semiring, greater}
 use Rattle.table.specs.Facts.{Among}
-use Rattle.table.specs.Sound.{Roles}
 use Rattle.passes.specs.Passes.{Part, least, sides}
 use Rattle.passes.specs.Rows.{side_place, sides_by, lower, lowered, least_in_row}
 
@@ -26,15 +25,15 @@ module _ {F : Type 0} (R : Semiring F) where
   least_step None x xs = refl
   least_step (Some y) x xs = refl
 
-  module _ (rs : Roles) (sheet : List F) (part : Part F) (p : ℕ → Bool) (e : ℕ → F) where
+  module _ (part : Part F) (p : ℕ → Bool) (e : ℕ → F) where
     pub least_is : (best : Option F) (vs : List ℕ) → ((v : ℕ) → Among v vs → p v ≡ true → greater R (part.side true v) (part.side false v) ≡ e v)
-        → least_in_row R p (sides R rs sheet part vs) best vs ≡ least_with best (map e (filter p vs))
+        → least_in_row R p (sides part vs) best vs ≡ least_with best (map e (filter p vs))
     least_is None [] h = refl
     least_is (Some y) [] h = refl
     least_is best (v ∷ vs) h = by (λ o. least_is o vs (λ u m. h u (inr m))) (p v) refl
       where
-        by : ((o : Option F) → least_in_row R p (sides R rs sheet part vs) o vs ≡ least_with o (map e (filter p vs))) → (b : Bool) → p v ≡ b
-            → least_in_row R p (sides R rs sheet part vs) (cond b (Some (lower R best (greater R (part.side true v) (part.side false v)))) best) vs ≡ least_with best (map e (cond b (v ∷ filter p vs) (filter p vs)))
+        by : ((o : Option F) → least_in_row R p (sides part vs) o vs ≡ least_with o (map e (filter p vs))) → (b : Bool) → p v ≡ b
+            → least_in_row R p (sides part vs) (cond b (Some (lower R best (greater R (part.side true v) (part.side false v)))) best) vs ≡ least_with best (map e (cond b (v ∷ filter p vs) (filter p vs)))
         by rest true t = rest _ ∙ least_step best _ (map e (filter p vs)) ∙ ap (λ x. least_with best (x ∷ map e (filter p vs))) (h v (inl refl) t)
         by rest false t = rest best
 

@@ -2,12 +2,12 @@
 use Rattle.std.proofs.Common.{◌≡◌, ℕ, Bool, List, [], ◌∷◌, map, get_or, sym, refl, ◌∙◌, ap₂, inl, inr}
 use Rattle.kinds.specs.Semiring.{Semiring, Laws}
 use Rattle.kinds.proofs.Ranks.{Upto, upto_refl, product_monotone}
-use Rattle.table.specs.Circuit.{Shape, lit, all, fork, top, bottom, World, Vars, upward}
+use Rattle.table.specs.Circuit.{Shape, lit, all, fork, top, bottom, World, upward}
 use Rattle.table.specs.Facts.{Among, node, Ordered}
-use Rattle.table.specs.Sound.{Roles, children}
+use Rattle.table.specs.Sound.{children}
 use Rattle.table.proofs.Upward.{upward_at}
-use Rattle.passes.specs.Holding.{Entries}
 use Rattle.passes.specs.Passes.{Part, times, value_at, count, plain, under, side_of}
+use Rattle.passes.specs.Problem.{Problem}
 use Rattle.passes.specs.Ways.{Way, made, count_way, plain_way, side_way}
 
 -- a relation that products keep
@@ -52,25 +52,25 @@ module _ {F : Type 0} (R : Semiring F) where
       }) ss ordered i
       ∙ is (upward step ss) (node ss i)
 
-  module _ (rs : Roles) (sheet : List F) where
-    pub count_made : (w : World) (done : List F) (s : Shape) → count R rs sheet w done s ≡ made R (count_way R rs sheet w) (value_at R done) s
+  module _ (p : Problem F) where
+    pub count_made : (w : World) (done : List F) (s : Shape) → count R p w done s ≡ made R (count_way R p w) (value_at R done) s
     count_made w done (lit v on) = refl
     count_made w done (all cs) = refl
     count_made w done (fork v a b) = refl
     count_made w done top = refl
     count_made w done bottom = refl
 
-    pub plain_made : (h : Entries) (done : List F) (s : Shape) → plain R rs sheet h done s ≡ made R (plain_way R rs sheet h) (value_at R done) s
-    plain_made h done (lit v on) = refl
-    plain_made h done (all cs) = refl
-    plain_made h done (fork v a b) = refl
-    plain_made h done top = refl
-    plain_made h done bottom = refl
+    pub plain_made : (done : List F) (s : Shape) → plain R p done s ≡ made R (plain_way R p) (value_at R done) s
+    plain_made done (lit v on) = refl
+    plain_made done (all cs) = refl
+    plain_made done (fork v a b) = refl
+    plain_made done top = refl
+    plain_made done bottom = refl
 
-    pub side_made : (ms : List Vars) (h : Entries) (done : List (Part F)) (b : Bool) (v : ℕ) (s : Shape)
-        → side_of R rs sheet ms h done s b v ≡ made R (side_way R rs b) (under R rs sheet ms h done b v) s
-    side_made ms h done b v (lit x on) = refl
-    side_made ms h done b v (all cs) = refl
-    side_made ms h done b v (fork x p q) = refl
-    side_made ms h done b v top = refl
-    side_made ms h done b v bottom = refl
+    pub side_made : (done : List (Part F)) (b : Bool) (v : ℕ) (s : Shape)
+        → side_of R p done s b v ≡ made R (side_way R p.roles b) (under R p done b v) s
+    side_made done b v (lit x on) = refl
+    side_made done b v (all cs) = refl
+    side_made done b v (fork x c d) = refl
+    side_made done b v top = refl
+    side_made done b v bottom = refl

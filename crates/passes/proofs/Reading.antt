@@ -16,7 +16,7 @@ use Rattle.table.proofs.Asked.{proved_sound}
 use Rattle.table.proofs.Decided.{decides_known}
 use Rattle.table.proofs.Listed.{decides_every}
 use Rattle.table.proofs.Sounds.{sound_proper}
-use Rattle.passes.specs.Steps.{inside, readable, form_ranged, ranged}
+use Rattle.passes.specs.NodeReads.{inside, readable, form_ranged, ranged}
 
 -- a node's part is before those of the nodes after it
 pub part_before : (c i stride : ℕ) → c < i → c * stride + stride ≤ i * stride

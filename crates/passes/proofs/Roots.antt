@@ -51,13 +51,14 @@ last_part n stride some =
     let e = suc-mul (n - 1) stride in
     sym e ∙ ap (λ k. k * stride) up
 
-module _ {F : Type 0} (R : Semiring F) (rs : Roles) (sheet : List F) (stride : ℕ) (wide : stride ≡ 2 * length (options rs) + 1) where
-  pub root_part_in : (ps : List (Part F)) (rest store : List F) (n : ℕ) → store ≡ work R rs sheet ps ++ rest → length ps ≡ n → 1 ≤ n → get_or store ((n - 1) * stride) R.zero ≡ (root (no_part R) ps).value
+module _ {F : Type 0} (R : Semiring F) (rs : Roles) (stride : ℕ) (wide : stride ≡ 2 * length (options rs) + 1) where
+  pub root_part_in : (ps : List (Part F)) (rest store : List F) (n : ℕ) → store ≡ work rs ps ++ rest → length ps ≡ n → 1 ≤ n
+      → get_or store ((n - 1) * stride) R.zero ≡ (root (no_part R) ps).value
   root_part_in ps rest store n is long some =
-      let size = work_length R rs sheet stride wide ps in
+      let size = work_length R rs stride wide ps in
       let last = last_part n stride some in
       let whole : length ps * stride ≡ n * stride = ap (λ k. k * stride) long in
       ap (λ xs. get_or xs ((n - 1) * stride) R.zero) is
-      ∙ get_or_append_left (work R rs sheet ps) rest R.zero ((n - 1) * stride) (omega arith)
-      ∙ value_there R rs sheet stride wide ps (n - 1)
+      ∙ get_or_append_left (work rs ps) rest R.zero ((n - 1) * stride) (omega arith)
+      ∙ value_there R rs stride wide ps (n - 1)
       ∙ ap (λ k. (get_or ps (k - 1) (no_part R)).value) (sym long)

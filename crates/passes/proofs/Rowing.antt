@@ -62,46 +62,46 @@ module _ {F : Type 0} (R : Semiring F) (s : Bool → ℕ → ℕ → F) (p : ℕ
             ∙ ap (λ us. least_in_row R p (sides_by s 0 us) None us) (sym (take_more vs j 0 l));
       }
 
-module _ {F : Type 0} (R : Semiring F) (rs : Roles) (sheet : List F) where
-  sides_length : (p : Part F) (vs : List ℕ) → length (sides R rs sheet p vs) ≡ 2 * length vs
+module _ {F : Type 0} (R : Semiring F) (rs : Roles) where
+  sides_length : (p : Part F) (vs : List ℕ) → length (sides p vs) ≡ 2 * length vs
   sides_length p [] = refl
   sides_length p (v ∷ vs) = let e = sides_length p vs in omega arith
 
-  pub sides_there : (p : Part F) (vs : List ℕ) (j : ℕ) (b : Bool) (z : F) → j < length vs → get_or (sides R rs sheet p vs) (2 * j + cond b 0 1) z ≡ p.side b (get_or vs j 0)
+  pub sides_there : (p : Part F) (vs : List ℕ) (j : ℕ) (b : Bool) (z : F) → j < length vs → get_or (sides p vs) (2 * j + cond b 0 1) z ≡ p.side b (get_or vs j 0)
   sides_there p [] j b z h = absurd (not-suc-le-zero h)
   sides_there p (v ∷ vs) zero true z h = refl
   sides_there p (v ∷ vs) zero false z h = refl
   sides_there p (v ∷ vs) (suc j) b z h =
       let e : 2 * suc j + cond b 0 1 ≡ suc (suc (2 * j + cond b 0 1)) = omega arith in
-      ap (λ n. get_or (sides R rs sheet p (v ∷ vs)) n z) e ∙ sides_there p vs j b z (omega arith)
+      ap (λ n. get_or (sides p (v ∷ vs)) n z) e ∙ sides_there p vs j b z (omega arith)
 
   abbrev pub laid : Part F → List F
-  laid p = p.value ∷ sides R rs sheet p (options rs)
+  laid p = p.value ∷ sides p (options rs)
 
   module _ (stride : ℕ) (wide : stride ≡ 2 * length (options rs) + 1) where
     pub laid_length : (p : Part F) → length (laid p) ≡ stride
     laid_length p = let e = sides_length p (options rs) in omega arith
 
-    pub work_length : (ps : List (Part F)) → length (work R rs sheet ps) ≡ length ps * stride
+    pub work_length : (ps : List (Part F)) → length (work rs ps) ≡ length ps * stride
     work_length [] = sym (zero-mul stride)
-    work_length (p ∷ ps) = let a = length-append (laid p) (work R rs sheet ps) in let b = laid_length p in let c = work_length ps in let d = suc-mul (length ps) stride in omega arith
+    work_length (p ∷ ps) = let a = length-append (laid p) (work rs ps) in let b = laid_length p in let c = work_length ps in let d = suc-mul (length ps) stride in omega arith
 
     next : (c : ℕ) (p : Part F) (k : ℕ) → suc c * stride + k ≡ length (laid p) + (c * stride + k)
     next c p k = let a = suc-mul c stride in let b = laid_length p in omega arith
 
-    pub value_there : (ps : List (Part F)) (c : ℕ) → get_or (work R rs sheet ps) (c * stride) R.zero ≡ (get_or ps c (no_part R)).value
+    pub value_there : (ps : List (Part F)) (c : ℕ) → get_or (work rs ps) (c * stride) R.zero ≡ (get_or ps c (no_part R)).value
     value_there [] c = refl
-    value_there (p ∷ ps) zero = ap (λ n. get_or (laid p ++ work R rs sheet ps) n R.zero) (zero-mul stride)
+    value_there (p ∷ ps) zero = ap (λ n. get_or (laid p ++ work rs ps) n R.zero) (zero-mul stride)
     value_there (p ∷ ps) (suc c) =
         let e : suc c * stride ≡ length (laid p) + c * stride = let a = suc-mul c stride in let b = laid_length p in omega arith in
-        ap (λ n. get_or (laid p ++ work R rs sheet ps) n R.zero) e ∙ get_or-append-add (laid p) (work R rs sheet ps) (c * stride) R.zero ∙ value_there ps c
+        ap (λ n. get_or (laid p ++ work rs ps) n R.zero) e ∙ get_or-append-add (laid p) (work rs ps) (c * stride) R.zero ∙ value_there ps c
 
-    pub side_there : (ps : List (Part F)) (c j : ℕ) (b : Bool) → j < length (options rs) → get_or (work R rs sheet ps) (c * stride + side_place j b) R.zero ≡ (get_or ps c (no_part R)).side b (get_or (options rs) j 0)
+    pub side_there : (ps : List (Part F)) (c j : ℕ) (b : Bool) → j < length (options rs) → get_or (work rs ps) (c * stride + side_place j b) R.zero ≡ (get_or ps c (no_part R)).side b (get_or (options rs) j 0)
     side_there [] c j b h = refl
     side_there (p ∷ ps) zero j b h =
         let e : zero * stride + side_place j b ≡ suc (2 * j + cond b 0 1) = let z = zero-mul stride in first b z in
-        ap (λ n. get_or (laid p ++ work R rs sheet ps) n R.zero) e
-        ∙ get_or_append_left (laid p) (work R rs sheet ps) R.zero (suc (2 * j + cond b 0 1)) (let q = sides_length p (options rs) in short b)
+        ap (λ n. get_or (laid p ++ work rs ps) n R.zero) e
+        ∙ get_or_append_left (laid p) (work rs ps) R.zero (suc (2 * j + cond b 0 1)) (let q = sides_length p (options rs) in short b)
         ∙ sides_there p (options rs) j b R.zero h
       where
         first : (b : Bool) → zero * stride ≡ 0 → zero * stride + side_place j b ≡ suc (2 * j + cond b 0 1)
@@ -112,9 +112,9 @@ module _ {F : Type 0} (R : Semiring F) (rs : Roles) (sheet : List F) where
         short true = let q = sides_length p (options rs) in omega arith
         short false = let q = sides_length p (options rs) in omega arith
     side_there (p ∷ ps) (suc c) j b h =
-        ap (λ n. get_or (laid p ++ work R rs sheet ps) n R.zero) (next c p (side_place j b))
-        ∙ get_or-append-add (laid p) (work R rs sheet ps) (c * stride + side_place j b) R.zero ∙ side_there ps c j b h
+        ap (λ n. get_or (laid p ++ work rs ps) n R.zero) (next c p (side_place j b))
+        ∙ get_or-append-add (laid p) (work rs ps) (c * stride + side_place j b) R.zero ∙ side_there ps c j b h
 
-  pub work_push : (ps : List (Part F)) (p : Part F) → work R rs sheet (ps ++ (p ∷ [])) ≡ work R rs sheet ps ++ (p.value ∷ sides R rs sheet p (options rs))
+  pub work_push : (ps : List (Part F)) (p : Part F) → work rs (ps ++ (p ∷ [])) ≡ work rs ps ++ (p.value ∷ sides p (options rs))
   work_push [] p = append-nil (laid p)
-  work_push (q ∷ ps) p = ap (λ r. laid q ++ r) (work_push ps p) ∙ sym (append_assoc (laid q) (work R rs sheet ps) (laid p))
+  work_push (q ∷ ps) p = ap (λ r. laid q ++ r) (work_push ps p) ∙ sym (append_assoc (laid q) (work rs ps) (laid p))

@@ -1,10 +1,12 @@
 pub mod Holding
+pub mod Problem
 pub mod Passes
 pub mod Bounding
 pub mod Marks
-pub mod Steps
+pub mod NodeReads
 pub mod Ways
 pub mod Rows
+pub mod PairStep
 pub mod Open
 pub mod Places
 pub mod Written

@@ -5,8 +5,9 @@ use Rattle.kinds.specs.Semiring.{Semiring, greater}
 use Rattle.table.specs.Circuit.{Shape, lit, all, fork, top, bottom, World, same}
 use Rattle.table.specs.Count.{weight}
 use Rattle.table.specs.Sound.{Roles, is_option}
-use Rattle.passes.specs.Holding.{Entries, entry, denies}
+use Rattle.passes.specs.Holding.{entry, denies}
 use Rattle.passes.specs.Passes.{times}
+use Rattle.passes.specs.Problem.{Problem}
 
 -- a literal's value, how a fork joins its branches, and the value of true
 pub record Way (F : Type 0) : Type 0 where
@@ -39,15 +40,20 @@ module _ {F : Type 0} (R : Semiring F) where
   abbrev pub side_way : Roles → Bool → Way F
   side_way rs b = record { leaf = λ _ on. indicator (same b on); join = joined rs; edge = R.zero }
 
-  module _ (rs : Roles) (sheet : List F) where
+  module _ (p : Problem F) where
+    -- what a literal counts: a chance's its weight, an option's one if it is taken, else zero
+    abbrev pub literal_of : ℕ → Bool → (taken : Bool) → F
+    literal_of v on taken = if is_option p.roles v then indicator taken else weight R p.sheet v on
+
     -- the way of the counting pass, and that of the plain pass
     abbrev pub count_way : World → Way F
-    count_way w = sums (λ v on. if is_option rs v then indicator (same (w v) on) else weight R sheet v on)
+    count_way w = sums (λ v on. literal_of v on (same (w v) on))
 
-    abbrev pub plain_way : Entries → Way F
-    plain_way h = record {
-      leaf = λ v on. if is_option rs v then (if denies (entry h v) on then R.zero else R.one) else weight R sheet v on;
-      join = joined rs;
+    abbrev pub plain_way : Way F
+    plain_way = record {
+      leaf = λ v on.
+          if is_option p.roles v then (if denies (entry p.holds v) on then R.zero else R.one) else weight R p.sheet v on;
+      join = joined p.roles;
       edge = R.one;
     }
 

@@ -1,9 +1,10 @@
 //! The counting pass: a value for every node, for the selection held.
-ghost use Rattle.std.specs.Prelude.{◌≡◌, refl, ◌≤◌, ◌++◌, length, drop};
-ghost use Rattle.table.specs.Whole.{circuit, roles};
+ghost use Rattle.std.specs.Prelude.{◌≡◌, refl, ◌≤◌, length};
+ghost use Rattle.table.specs.Whole.{circuit};
 ghost use Rattle.passes.specs.Holding.{selected};
-ghost use Rattle.passes.specs.Passes.{counts};
+ghost use Rattle.passes.specs.Problem.{problem};
 ghost use Rattle.passes.specs.Ways.{count_way};
+ghost use Rattle.passes.specs.Written.{counts_left};
 
 use crate::query::Query;
 use crate::rule::Rule;
@@ -14,7 +15,7 @@ use kinds::figure::Figure;
 struct Counting;
 
 impl<K: Figure> Rule<K> for Counting {
-    ghost way = { λ s q. count_way K.ring (roles q.table.now) q.sheet.now (selected q.holds.now.entries) };
+    ghost way = { λ s q. count_way K.ring (problem q) (selected q.holds.now.entries) };
 
     fn literal(&self, query: &Query<K>, variable: u16, on: bool) -> K {
         query.literal(variable, on, query.holds.is_on(variable) == on)
@@ -31,7 +32,7 @@ impl<K: Figure> Query<'_, K> {
     /// Writes the values of the nodes, in order, into the first places of `work`.
     pub fn count_pass(&self, work: &mut [K])
         requires room { length (circuit self.now.table.now) ≤ length work.old }
-        ensures { work.new ≡ counts K.ring (roles self.now.table.now) self.now.sheet.now (circuit self.now.table.now) (selected self.now.holds.now.entries) ++ drop (length (circuit self.now.table.now)) work.old }
+        ensures { work.new ≡ counts_left K.ring (problem self.now) work.old }
     {
         self.pass(&Counting, work);
     }

@@ -1,10 +1,9 @@
 //! The figure of the selection held.
-ghost use Rattle.std.specs.Prelude.{◌≡◌, ◌-◌, ◌<◌, ◌≤◌, ◌++◌, length, drop, slice_index_or};
-ghost use Rattle.table.specs.Count.{figure as figure_of};
-ghost use Rattle.table.specs.Sound.{chances};
-ghost use Rattle.table.specs.Whole.{circuit, roles};
-ghost use Rattle.passes.specs.Holding.{selected};
-ghost use Rattle.passes.specs.Passes.{counts};
+ghost use Rattle.std.specs.Prelude.{◌≡◌, ◌-◌, ◌<◌, ◌≤◌, length, slice_index_or};
+ghost use Rattle.table.specs.Whole.{circuit};
+ghost use Rattle.passes.specs.Bounding.{CountsFigure};
+ghost use Rattle.passes.specs.Problem.{problem, held_figure};
+ghost use Rattle.passes.specs.Written.{counts_left};
 
 use crate::query::Query;
 use kinds::figure::Figure;
@@ -14,8 +13,9 @@ impl<K: Figure> Query<'_, K> {
     /// the root true, of the product of their weights.
     pub fn count_figure(&self, work: &mut [K]) -> K
         requires room { length (circuit self.now.table.now) ≤ length work.old }
-        ensures answer { result ≡ figure_of K.ring (circuit self.now.table.now) (chances (roles self.now.table.now)) self.now.sheet.now (selected self.now.holds.now.entries) }
-        ensures work { work.new ≡ counts K.ring (roles self.now.table.now) self.now.sheet.now (circuit self.now.table.now) (selected self.now.holds.now.entries) ++ drop (length (circuit self.now.table.now)) work.old }
+        ensures answer { result ≡ held_figure K.ring (problem self.now) }
+        ensures counts { CountsFigure K.ring (problem self.now) }
+        ensures work { work.new ≡ counts_left K.ring (problem self.now) work.old }
     {
         self.count_pass(work);
         last_of(work, self.table.nodes.len())

@@ -4,7 +4,6 @@
 mod bounds;
 mod counting;
 mod figure;
-mod holding;
 pub mod holds;
 mod pair;
 pub mod places;

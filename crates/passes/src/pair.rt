@@ -1,19 +1,16 @@
 //! The pair pass: a value for every node, and its on and off value for each free option that it
 //! mentions.
-ghost use Rattle.std.specs.Prelude.{◌≡◌, ◌+◌, ◌*◌, ◌<◌, ◌≤◌, true, length, map, take, drop, false, None};
+ghost use Rattle.std.specs.Prelude.{◌≡◌, ◌+◌, ◌*◌, ◌<◌, ◌≤◌, true, false, length, map, take, drop};
 ghost use Rattle.std.specs.List.{list_all};
-ghost use Rattle.table.specs.Circuit.{mentions};
-ghost use Rattle.table.specs.Facts.{about, node};
-ghost use Rattle.table.specs.Nodes.{shape};
 ghost use Rattle.table.specs.Sound.{is_option, options as options_of};
 ghost use Rattle.table.specs.Whole.{circuit, roles};
+ghost use Rattle.passes.specs.NodeReads.{has_part, ranged_in, readable_in};
 ghost use Rattle.passes.specs.Open.{FreeOptions, OpenOptions};
 ghost use Rattle.passes.specs.Passes.{times};
 ghost use Rattle.passes.specs.Places.{stride, pair_places};
-ghost use Rattle.passes.specs.Rows.{under_in, open_at, lower, least_in_row, row_in, part_in};
-ghost use Rattle.passes.specs.Steps.{inside, ranged, readable};
-ghost use Rattle.passes.specs.Ways.{made, side_way};
-ghost use Rattle.passes.specs.Written.{PairsWritten};
+ghost use Rattle.passes.specs.Problem.{problem};
+ghost use Rattle.passes.specs.Rows.{open_in, lower, part_in};
+ghost use Rattle.passes.specs.Written.{pairs_left};
 
 use crate::places::stride;
 use crate::plain::Plain;
@@ -52,14 +49,16 @@ struct Step<'a, 'b, 'c, K> {
     ghost stride: { values.stride ≡ stride (roles query.now.table.now) },
     ghost inside: { node < length query.now.table.now.nodes.now },
     ghost before: { length values.places.now ≡ node * values.stride },
-    ghost set: { OpenOptions query.now node free },
+    ghost set: { OpenOptions (problem query.now) node free },
 }
 
 impl<K: Figure> Step<'_, '_, '_, K> {
+    ghost use Rattle.passes.specs.PairStep.{under_here, side_by_record, side_here, row_here, least_here};
+
     /// Whether the node has values for an option: the option is free, and the node mentions it.
     fn is_open(&self, option: u16) -> bool
         requires { is_option (roles self.now.query.now.table.now) option ≡ true }
-        ensures { result ≡ open_at self.now.query.now.holds.now.entries (about (circuit self.now.query.now.table.now) self.now.node) option }
+        ensures { result ≡ open_in (problem self.now.query.now) self.now.node option }
     {
         contains(self.free, option)
     }
@@ -68,9 +67,9 @@ impl<K: Figure> Step<'_, '_, '_, K> {
     /// side if it mentions the option, else its value.
     fn under(&self, option: Placed, child: u16) -> Sides<K>
         requires place { option.place + 1 < self.now.values.stride }
-        requires inside { inside (length self.now.values.places.now) self.now.values.stride child ≡ true }
-        ensures on { result.on ≡ under_in K.ring (mentions (circuit self.now.query.now.table.now)) self.now.values.stride self.now.values.places.now option.variable option.place child }
-        ensures off { result.off ≡ under_in K.ring (mentions (circuit self.now.query.now.table.now)) self.now.values.stride self.now.values.places.now option.variable (option.place + 1) child }
+        requires inside { has_part self.now.values child ≡ true }
+        ensures on { result.on ≡ under_here K.ring self.now option.variable option.place child }
+        ensures off { result.off ≡ under_here K.ring self.now option.variable (option.place + 1) child }
     {
         let value = self.values.value(child);
         if !self
@@ -93,9 +92,9 @@ impl<K: Figure> Step<'_, '_, '_, K> {
     /// The products of the children's figures under an option.
     fn product_under(&self, option: Placed, children: &[u16]) -> Sides<K>
         requires place { option.place + 1 < self.now.values.stride }
-        requires inside { list_all (inside (length self.now.values.places.now) self.now.values.stride) children.now ≡ true }
-        ensures on { result.on ≡ times K.ring (map (under_in K.ring (mentions (circuit self.now.query.now.table.now)) self.now.values.stride self.now.values.places.now option.variable option.place) children.now) }
-        ensures off { result.off ≡ times K.ring (map (under_in K.ring (mentions (circuit self.now.query.now.table.now)) self.now.values.stride self.now.values.places.now option.variable (option.place + 1)) children.now) }
+        requires inside { list_all (has_part self.now.values) children.now ≡ true }
+        ensures on { result.on ≡ times K.ring (map (under_here K.ring self.now option.variable option.place) children.now) }
+        ensures off { result.off ≡ times K.ring (map (under_here K.ring self.now option.variable (option.place + 1)) children.now) }
     {
         // A loop, as in `NodeValues::product`.
         let mut on = K::one();
@@ -112,10 +111,10 @@ impl<K: Figure> Step<'_, '_, '_, K> {
     /// literal zero.
     fn node_sides(&self, option: Placed, node: Node) -> Sides<K>
         requires place { option.place + 1 < self.now.values.stride }
-        requires ranged { ranged self.now.query.now.table.now.children.now node ≡ true }
-        requires readable { readable (length (roles self.now.query.now.table.now)) (length self.now.values.places.now) self.now.values.stride (shape self.now.query.now.table.now.children.now node) ≡ true }
-        ensures on { result.on ≡ made K.ring (side_way K.ring (roles self.now.query.now.table.now) true) (under_in K.ring (mentions (circuit self.now.query.now.table.now)) self.now.values.stride self.now.values.places.now option.variable option.place) (shape self.now.query.now.table.now.children.now node) }
-        ensures off { result.off ≡ made K.ring (side_way K.ring (roles self.now.query.now.table.now) false) (under_in K.ring (mentions (circuit self.now.query.now.table.now)) self.now.values.stride self.now.values.places.now option.variable (option.place + 1)) (shape self.now.query.now.table.now.children.now node) }
+        requires ranged { ranged_in self.now.query.now.table.now node ≡ true }
+        requires readable { readable_in self.now.query.now.table.now self.now.values node ≡ true }
+        ensures on { result.on ≡ side_by_record K.ring self.now true option.variable option.place node }
+        ensures off { result.off ≡ side_by_record K.ring self.now false option.variable (option.place + 1) node }
     {
         let children = self.query.table.children;
         let first = node.first as usize;
@@ -145,8 +144,8 @@ impl<K: Figure> Step<'_, '_, '_, K> {
     /// The node's on and off value for an option.
     fn sides(&self, option: Placed) -> Sides<K>
         requires place { option.place + 1 < self.now.values.stride }
-        ensures on { result.on ≡ made K.ring (side_way K.ring (roles self.now.query.now.table.now) true) (under_in K.ring (mentions (circuit self.now.query.now.table.now)) self.now.values.stride self.now.values.places.now option.variable option.place) (node (circuit self.now.query.now.table.now) self.now.node) }
-        ensures off { result.off ≡ made K.ring (side_way K.ring (roles self.now.query.now.table.now) false) (under_in K.ring (mentions (circuit self.now.query.now.table.now)) self.now.values.stride self.now.values.places.now option.variable (option.place + 1)) (node (circuit self.now.query.now.table.now) self.now.node) }
+        ensures on { result.on ≡ side_here K.ring self.now true option.variable option.place }
+        ensures off { result.off ≡ side_here K.ring self.now false option.variable (option.place + 1) }
     {
         self.node_sides(option, self.query.table.nodes[self.node])
     }
@@ -156,8 +155,8 @@ impl<K: Figure> Step<'_, '_, '_, K> {
     /// of the two.
     fn write_sides(&self, part: &mut [K]) -> Option<K>
         requires { length part.old ≡ self.now.values.stride }
-        ensures row { drop 1 part.new ≡ row_in K.ring (roles self.now.query.now.table.now) self.now.query.now.holds.now.entries (circuit self.now.query.now.table.now) self.now.values.stride self.now.values.places.now self.now.node self.now.options.now }
-        ensures least { result ≡ least_in_row K.ring (open_at self.now.query.now.holds.now.entries (about (circuit self.now.query.now.table.now) self.now.node)) (row_in K.ring (roles self.now.query.now.table.now) self.now.query.now.holds.now.entries (circuit self.now.query.now.table.now) self.now.values.stride self.now.values.places.now self.now.node self.now.options.now) None self.now.options.now }
+        ensures row { drop 1 part.new ≡ row_here K.ring self.now }
+        ensures least { result ≡ least_here K.ring self.now }
     {
         if self.free == 0 {
             part.fill_with(|| K::zero());
@@ -209,11 +208,11 @@ impl<K: Figure> Query<'_, K> {
     /// Writes a node's part, from those of the nodes before it.
     fn write_part(&self, options: &[u16], free: u64, node: usize, places: &[K], part: &mut [K])
         requires listed { options.now ≡ options_of (roles self.now.table.now) }
-        requires free { FreeOptions self.now free }
+        requires free { FreeOptions (problem self.now) free }
         requires node { node < length self.now.table.now.nodes.now }
         requires part { length part.old ≡ stride (roles self.now.table.now) }
         requires places { length places.now ≡ node * stride (roles self.now.table.now) }
-        ensures { part.new ≡ part_in K.ring (roles self.now.table.now) self.now.sheet.now self.now.holds.now.entries (circuit self.now.table.now) (stride (roles self.now.table.now)) places.now node options.now }
+        ensures { part.new ≡ part_in K.ring (problem self.now) (stride (roles self.now.table.now)) places.now node options.now }
     {
         let values = NodeValues {
             places,
@@ -237,7 +236,7 @@ impl<K: Figure> Query<'_, K> {
     fn write_parts(&self, options: &[u16], work: &mut [K])
         requires listed { options.now ≡ options_of (roles self.now.table.now) }
         requires room { pair_places (roles self.now.table.now) (circuit self.now.table.now) ≤ length work.old }
-        ensures { PairsWritten K.ring self.now work.old work.new }
+        ensures { work.new ≡ pairs_left K.ring (problem self.now) work.old }
     {
         let stride = stride(self.table);
         let free = self.table.option_set() & self.holds.free_set();
@@ -253,7 +252,7 @@ impl<K: Figure> Query<'_, K> {
     /// number, zero where there is none.
     pub fn pair_pass(&self, work: &mut [K])
         requires room { pair_places (roles self.now.table.now) (circuit self.now.table.now) ≤ length work.old }
-        ensures { PairsWritten K.ring self.now work.old work.new }
+        ensures { work.new ≡ pairs_left K.ring (problem self.now) work.old }
     {
         let mut numbers = [0; 64];
         let count = list_options(self.table, &mut numbers);

@@ -1,8 +1,9 @@
 //! The plain pass: a value for every node, for holds. A free option counts as it suits best.
-ghost use Rattle.std.specs.Prelude.{◌≡◌, refl, ◌≤◌, ◌++◌, length, drop};
+ghost use Rattle.std.specs.Prelude.{◌≡◌, refl, ◌≤◌, length};
 ghost use Rattle.table.specs.Whole.{circuit, roles};
-ghost use Rattle.passes.specs.Passes.{plains};
+ghost use Rattle.passes.specs.Problem.{problem};
 ghost use Rattle.passes.specs.Ways.{joined, plain_way};
+ghost use Rattle.passes.specs.Written.{plains_left};
 
 use crate::query::Query;
 use crate::rule::Rule;
@@ -14,7 +15,7 @@ use kinds::order::greater;
 pub(crate) struct Plain;
 
 impl<K: Figure> Rule<K> for Plain {
-    ghost way = { λ s q. plain_way K.ring (roles q.table.now) q.sheet.now q.holds.now.entries };
+    ghost way = { λ s q. plain_way K.ring (problem q) };
 
     fn literal(&self, query: &Query<K>, variable: u16, on: bool) -> K {
         query.literal(variable, on, !query.holds.denies(variable, on))
@@ -43,7 +44,7 @@ impl<K: Figure> Query<'_, K> {
     /// Writes the values of the nodes, in order, into the first places of `work`.
     pub fn plain_pass(&self, work: &mut [K])
         requires room { length (circuit self.now.table.now) ≤ length work.old }
-        ensures { work.new ≡ plains K.ring (roles self.now.table.now) self.now.sheet.now (circuit self.now.table.now) self.now.holds.now.entries ++ drop (length (circuit self.now.table.now)) work.old }
+        ensures { work.new ≡ plains_left K.ring (problem self.now) work.old }
     {
         self.pass(&Plain, work);
     }

@@ -1,9 +1,8 @@
 //! What a pass is asked.
-ghost use Rattle.std.specs.Prelude.{◌≡◌, ◌*◌, ◌≤◌, true, length, if◌then◌else◌};
+ghost use Rattle.std.specs.Prelude.{◌≡◌, ◌*◌, ◌≤◌, true, length};
 ghost use Rattle.table.specs.Count.{weight};
-ghost use Rattle.table.specs.Sound.{known, is_option};
+ghost use Rattle.table.specs.Sound.{known};
 ghost use Rattle.table.specs.Whole.{roles};
-ghost use Rattle.passes.specs.Ways.{indicator};
 
 use crate::holds::Holds;
 use crate::sheet::weight_of;
@@ -21,6 +20,9 @@ pub struct Query<'a, K> {
 
 // A work table is no part of a query: it is lent to one pass, which asks for its own room in it.
 impl<K: Figure> Query<'_, K> {
+    ghost use Rattle.passes.specs.Problem.{problem};
+    ghost use Rattle.passes.specs.Ways.{literal_of};
+
     /// A variable's on (or off) weight.
     pub(crate) fn weight(&self, variable: u16, on: bool) -> K
         requires { known (length (roles self.now.table.now)) variable ≡ true }
@@ -32,7 +34,7 @@ impl<K: Figure> Query<'_, K> {
     /// What a literal counts: a chance's its weight, an option's one if it is taken, else zero.
     pub(crate) fn literal(&self, variable: u16, on: bool, taken: bool) -> K
         requires { known (length (roles self.now.table.now)) variable ≡ true }
-        ensures { result ≡ (if is_option (roles self.now.table.now) variable then indicator K.ring taken else weight K.ring self.now.sheet.now variable on) }
+        ensures { result ≡ literal_of K.ring (problem self.now) variable on taken }
     {
         if !self.table.has_option(variable) {
             self.weight(variable, on)

@@ -1,14 +1,13 @@
 //! What the counting and the plain pass do: each values the nodes in order, each from those before
 //! it, by a rule.
-ghost use Rattle.std.specs.Prelude.{◌≡◌, ◌*◌, ◌<◌, ◌≤◌, true, ◌++◌, length, drop};
-ghost use Rattle.table.specs.Circuit.{upward};
+ghost use Rattle.std.specs.Prelude.{◌≡◌, ◌*◌, ◌<◌, ◌≤◌, true, length};
 ghost use Rattle.table.specs.Facts.{node};
-ghost use Rattle.table.specs.Nodes.{shape};
 ghost use Rattle.table.specs.Sound.{known};
 ghost use Rattle.table.specs.Whole.{circuit, roles};
 ghost use Rattle.passes.specs.declared.query.Query.{Query};
-ghost use Rattle.passes.specs.Steps.{ranged, readable, value_in};
-ghost use Rattle.passes.specs.Ways.{Way, made, walked};
+ghost use Rattle.passes.specs.NodeReads.{shape_in, ranged_in, readable_in, value_among};
+ghost use Rattle.passes.specs.Ways.{Way, made};
+ghost use Rattle.passes.specs.Written.{walk_left};
 
 use crate::query::Query;
 use crate::values::NodeValues;
@@ -34,9 +33,9 @@ pub(crate) trait Rule<K: Figure> {
 impl<K: Figure> Query<'_, K> {
     /// The value of a node, from the values before it.
     fn node<W: Rule<K>>(&self, rule: &W, values: &NodeValues<K>, node: Node) -> K
-        requires ranged { ranged self.now.table.now.children.now node ≡ true }
-        requires readable { readable (length (roles self.now.table.now)) (length values.now.places.now) values.now.stride (shape self.now.table.now.children.now node) ≡ true }
-        ensures { result ≡ made K.ring (W.way rule.now self.now) (value_in K.ring values.now.stride values.now.places.now) (shape self.now.table.now.children.now node) }
+        requires ranged { ranged_in self.now.table.now node ≡ true }
+        requires readable { readable_in self.now.table.now values.now node ≡ true }
+        ensures { result ≡ made K.ring (W.way rule.now self.now) (value_among K.ring values.now) (shape_in self.now.table.now node) }
     {
         let children = self.table.children;
         let first = node.first as usize;
@@ -57,7 +56,7 @@ impl<K: Figure> Query<'_, K> {
     pub(crate) fn node_at<W: Rule<K>>(&self, rule: &W, values: &NodeValues<K>, number: usize) -> K
         requires node { number < length self.now.table.now.nodes.now }
         requires before { length values.now.places.now ≡ number * values.now.stride }
-        ensures { result ≡ made K.ring (W.way rule.now self.now) (value_in K.ring values.now.stride values.now.places.now) (node (circuit self.now.table.now) number) }
+        ensures { result ≡ made K.ring (W.way rule.now self.now) (value_among K.ring values.now) (node (circuit self.now.table.now) number) }
     {
         self.node(rule, values, self.table.nodes[number])
     }
@@ -65,7 +64,7 @@ impl<K: Figure> Query<'_, K> {
     /// Writes the values of the nodes, in order, into the first places of `work`.
     pub(crate) fn pass<W: Rule<K>>(&self, rule: &W, work: &mut [K])
         requires room { length (circuit self.now.table.now) ≤ length work.old }
-        ensures { work.new ≡ upward (walked K.ring (W.way rule.now self.now) (value_in K.ring 1)) (circuit self.now.table.now) ++ drop (length (circuit self.now.table.now)) work.old }
+        ensures { work.new ≡ walk_left K.ring (W.way rule.now self.now) (circuit self.now.table.now) work.old }
     {
         // By number: what `node_at` asks of a node, and of the values before it, goes by its number.
         for number in 0..self.table.nodes.len() {

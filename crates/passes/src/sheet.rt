@@ -1,7 +1,6 @@
 //! The sheet: an on and an off weight for each variable.
 ghost use Rattle.std.specs.Prelude.{◌≡◌, ◌*◌, ◌<◌, ◌≤◌, true, false, length, slice_set};
-ghost use Rattle.table.specs.Count.{weight};
-ghost use Rattle.passes.specs.Steps.{place};
+ghost use Rattle.table.specs.Count.{place, weight};
 
 use kinds::figure::Figure;
 

@@ -2,7 +2,6 @@
 ghost use Rattle.std.specs.Prelude.{◌≡◌, ◌<◌, true, length, map};
 ghost use Rattle.std.specs.List.{list_all};
 ghost use Rattle.passes.specs.Passes.{times};
-ghost use Rattle.passes.specs.Steps.{inside, value_in};
 
 use kinds::figure::Figure;
 
@@ -16,18 +15,20 @@ pub(crate) struct NodeValues<'a, K> {
 }
 
 impl<K: Figure> NodeValues<'_, K> {
+    ghost use Rattle.passes.specs.NodeReads.{has_part, value_among};
+
     /// The value of a node.
     pub(crate) fn value(&self, node: u16) -> K
-        requires { inside (length self.now.places.now) self.now.stride node ≡ true }
-        ensures { result ≡ value_in K.ring self.now.stride self.now.places.now node }
+        requires { has_part self.now node ≡ true }
+        ensures { result ≡ value_among K.ring self.now node }
     {
         self.places[node as usize * self.stride]
     }
 
     /// The product of the children's values.
     pub(crate) fn product(&self, children: &[u16]) -> K
-        requires { list_all (inside (length self.now.places.now) self.now.stride) children.now ≡ true }
-        ensures { result ≡ times K.ring (map (value_in K.ring self.now.stride self.now.places.now) children.now) }
+        requires { list_all (has_part self.now) children.now ≡ true }
+        ensures { result ≡ times K.ring (map (value_among K.ring self.now) children.now) }
     {
         // A loop: the closure of a fold can't be told that each child may be read.
         let mut all = K::one();

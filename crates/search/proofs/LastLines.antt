@@ -7,11 +7,10 @@ use Rattle.std.proofs.lemmas.Slice.{drop-append-drop}
 use Rattle.kinds.specs.Semiring.{Semiring}
 use Rattle.text.specs.Format.{Said}
 use Rattle.text.specs.Lines.{lines}
-use Rattle.table.specs.Count.{weight}
+use Rattle.table.specs.Count.{place, weight}
 use Rattle.table.specs.Facts.{Known}
 use Rattle.table.specs.Sound.{Roles, known, is_option}
 use Rattle.table.proofs.Decided.{decides_known}
-use Rattle.passes.specs.Steps.{place}
 use Rattle.search.specs.declared.fault.Fault.{Fault}
 use Rattle.search.specs.declared.weighing.Weighing.{Weighing}
 use Rattle.search.specs.Day.{weighed}

@@ -1,5 +1,4 @@
 pub mod Testing
-pub mod Bounds
 pub mod Running
 pub mod Leading
 pub mod Rising

@@ -2,13 +2,14 @@
 use Rattle.std.proofs.Common.{◌≡◌, ℕ, true, false, List, [], ◌∷◌, map, Some, None, Option, sym, refl, ap, ◌∙◌, subst}
 use Rattle.std.proofs.lemmas.Bool.{both_ways}
 use Rattle.kinds.specs.Semiring.{Semiring}
-use Rattle.table.specs.Circuit.{Shape, Vars}
+use Rattle.table.specs.Circuit.{Vars}
 use Rattle.table.specs.Facts.{Among}
 use Rattle.table.specs.Sound.{Roles}
 use Rattle.passes.specs.Holding.{Entries, entry, is_free, free}
 use Rattle.passes.specs.Passes.{Part, root_part}
 use Rattle.passes.specs.declared.holds.Entry.{Entry}
 use Rattle.passes.specs.declared.holds.Entry.TheVariants.{Free, On, Off}
+use Rattle.passes.specs.Problem.{Problem}
 use Rattle.search.specs.Listing.{root_mentions}
 use Rattle.search.specs.Orders.{Lean, Order, Lawful, numbers, rising}
 use Rattle.search.specs.Select.{lean_of, named, leans}
@@ -38,9 +39,9 @@ module _ {F : Type 0} (R : Semiring F) (pick : Order F) (law : Lawful pick) (rs 
   named_names [] same = sym same
   named_names (l ∷ ls) same = names_free l ls same
 
-  module _ (ss : List Shape) (sheet : List F) where
-    pub next_names : Names (named pick (leans R rs ss sheet h))
-    next_names = named_names (leans R rs ss sheet h) (leans_numbers (root_part R rs sheet ss h) (root_mentions ss) (free rs h))
+module _ {F : Type 0} (R : Semiring F) (pick : Order F) (law : Lawful pick) (p : Problem F) where
+  pub next_names : Names R pick law p.roles p.holds (named pick (leans R p))
+  next_names = named_names R pick law p.roles p.holds (leans R p) (leans_numbers (root_part R p) (root_mentions p.circuit) (free p.roles p.holds))
 
-    pub named_free : (v : ℕ) → named pick (leans R rs ss sheet h) ≡ Some v → entry h v ≡ Free
-    named_free v e = entry_free _ (free_option rs h v (subst Names e next_names)).1
+  pub named_free : (v : ℕ) → named pick (leans R p) ≡ Some v → entry p.holds v ≡ Free
+  named_free v e = entry_free _ (free_option p.roles p.holds v (subst (Names R pick law p.roles p.holds) e next_names)).1

@@ -1,11 +1,20 @@
--- What a study's calls may write of the work table, and what they leave there.
-use Rattle.std.specs.Prelude.{◌≡◌, ℕ, List, ◌++◌, length, drop}
+-- What a study's calls answer, and what they leave in the work table.
+use Rattle.std.specs.Prelude.{◌≡◌, ℕ, Bool, List, length, drop, Result}
 use Rattle.kinds.specs.Semiring.{Semiring}
 use Rattle.table.specs.declared.table.Table.{Table}
 use Rattle.table.specs.Whole.{circuit, roles}
-use Rattle.passes.specs.Holding.{Entries, selected}
-use Rattle.passes.specs.Passes.{counts, pairs, work}
+use Rattle.passes.specs.Marks.{with_entry, held}
+use Rattle.passes.specs.Passes.{bound}
 use Rattle.passes.specs.Places.{pair_places}
+use Rattle.passes.specs.Problem.{Problem, problem_of, under_holds, held_figure}
+use Rattle.passes.specs.Written.{counts_left, pairs_left}
+use Rattle.passes.specs.declared.holds.Holds.{Holds}
+use Rattle.passes.specs.declared.sheet.Sheet.{Sheet}
+use Rattle.search.specs.Orders.{Order}
+use Rattle.search.specs.Select.{select}
+use Rattle.search.specs.Study.{answered, changed_to, figure_tests, bound_tests, trial_tests}
+use Rattle.search.specs.declared.fault.Fault.{Fault}
+use Rattle.search.specs.declared.found.Found.{Found}
 
 -- the places that bound, trial and select may write
 abbrev pub places : Table → ℕ
@@ -15,11 +24,33 @@ places t = pair_places (roles t) (circuit t)
 abbrev pub BehindKept : {F : Type 0} → Table → List F → List F → Type 0
 BehindKept t before after = drop (places t) after ≡ drop (places t) before
 
-module _ {F : Type 0} (R : Semiring F) (t : Table) (h : Entries) (sheet : List F) where
-  -- the counting values of the selection held, in the first places of the work table
-  abbrev pub counts_left : List F → List F
-  counts_left w = counts R (roles t) sheet (circuit t) (selected h) ++ drop (length (circuit t)) w
+-- what a call asks, by the parts of a study that it is lent
+abbrev pub asked : {F : Type 0} → Table → Holds → Sheet F → Problem F
+asked t h s = problem_of t h.entries s.figures.now
 
-  -- the pair pass under the holds, in the first places of the work table
-  abbrev pub pairs_left : List F → List F
-  pairs_left w = work R (roles t) sheet (pairs R (roles t) sheet (circuit t) h) ++ drop (places t) w
+-- the same with one option more held on (or off)
+abbrev pub tried : {F : Type 0} → Problem F → ℕ → Bool → Problem F
+tried p v on = under_holds p (with_entry p.holds v (held on))
+
+-- with a work table of so many figures
+module _ {F : Type 0} (R : Semiring F) (p : Problem F) (work-size : ℕ) where
+  abbrev pub figure_answer : Result F Fault
+  figure_answer = answered (figure_tests p work-size) (held_figure R p)
+
+  abbrev pub bound_answer : Result F Fault
+  bound_answer = answered (bound_tests p work-size) (bound R p)
+
+  abbrev pub trial_answer : ℕ → Bool → Result F Fault
+  trial_answer v on = answered (trial_tests p work-size v) (bound R (tried p v on))
+
+  abbrev pub select_answer : Order F → Result (Found F) Fault
+  select_answer pick = answered (bound_tests p work-size) (select R pick p)
+
+module _ {F : Type 0} (R : Semiring F) (p : Problem F) (work : List F) where
+  -- figure leaves the counting values of the selection held in the first places of the work table
+  abbrev pub figure_leaves : List F
+  figure_leaves = changed_to (figure_tests p (length work)) (counts_left R p work) work
+
+  -- bound leaves the pair pass under the holds
+  abbrev pub bound_leaves : List F
+  bound_leaves = changed_to (bound_tests p (length work)) (pairs_left R p work) work

@@ -8,11 +8,12 @@ use Rattle.kinds.specs.declared.value.Tally.{Tally}
 use Rattle.table.specs.Circuit.{Shape, lit, all, fork}
 use Rattle.table.specs.Count.{figure}
 use Rattle.table.specs.Faults.{fault_number, fault_place}
-use Rattle.table.specs.Sound.{Roles, Verdict, sound, flawed, chances, verdict}
+use Rattle.table.specs.Sound.{Roles, Verdict, sound, flawed, verdict}
 use Rattle.table.specs.declared.fault.Fault.TheVariants.{Node}
 use Rattle.passes.specs.Holding.{Entries, selected}
 use Rattle.passes.specs.Marks.{with_entry}
 use Rattle.passes.specs.Passes.{plain_bound, bound}
+use Rattle.passes.specs.Problem.{Problem}
 use Rattle.passes.specs.declared.holds.Entry.{Entry}
 use Rattle.passes.specs.declared.holds.Entry.TheVariants.{On, Off}
 use Rattle.search.specs.declared.found.Found.{Found}
@@ -47,6 +48,10 @@ loading on off = Load (load 0) ∷ Load (load 0) ∷ Load (load on) ∷ Load (lo
 abbrev pub holding : Entry → Entries
 holding e = with_entry unheld 1 e
 
+-- what is asked of plant K with this sheet and these holds
+abbrev pub asking : {F : Type 0} → List F → Entries → Problem F
+asking sheet h = record { roles = roles; circuit = plant_k; sheet = sheet; holds = h }
+
 -- what select finds: a selection with its figure, or none, and how many branches were opened
 abbrev pub found : {F : Type 0} → Entries → F → ℕ → Found F
 found h f n = record { best = Some (record { holds = record { entries = h }; figure = f }); openings = n }
@@ -62,23 +67,23 @@ refusal (flawed f i) = Some (fault_number (Node f i), fault_place (Node f i))
 pub record Worked : Type 0 where
   -- 1: plant K, the chance weighing 3 on and 7 off
   pub plant_sound : verdict roles plant_k ≡ sound
-  pub on_figure : figure tallies plant_k (chances roles) (weighing 3 7) (selected (holding On)) ≡ tally 7
-  pub off_figure : figure tallies plant_k (chances roles) (weighing 3 7) (selected (holding Off)) ≡ tally 3
-  pub free_plain : plain_bound tallies roles (weighing 3 7) plant_k unheld ≡ tally 10
-  pub free_bound : bound tallies roles (weighing 3 7) plant_k unheld ≡ tally 7
-  pub free_select : select tallies lowest roles plant_k (weighing 3 7) unheld ≡ found (holding On) (tally 7) 3
-  pub free_select_lean : select tallies (strongest tallies) roles plant_k (weighing 3 7) unheld ≡ found (holding On) (tally 7) 3
+  pub on_figure : figure tallies roles plant_k (weighing 3 7) (selected (holding On)) ≡ tally 7
+  pub off_figure : figure tallies roles plant_k (weighing 3 7) (selected (holding Off)) ≡ tally 3
+  pub free_plain : plain_bound tallies (asking (weighing 3 7) unheld) ≡ tally 10
+  pub free_bound : bound tallies (asking (weighing 3 7) unheld) ≡ tally 7
+  pub free_select : select tallies lowest (asking (weighing 3 7) unheld) ≡ found (holding On) (tally 7) 3
+  pub free_select_lean : select tallies (strongest tallies) (asking (weighing 3 7) unheld) ≡ found (holding On) (tally 7) 3
   -- 2: weights that tie, so that the option's on side, opened first, stays the best
-  pub tie_plain : plain_bound tallies roles (weighing 5 5) plant_k unheld ≡ tally 10
-  pub tie_bound : bound tallies roles (weighing 5 5) plant_k unheld ≡ tally 5
-  pub tie_select : select tallies lowest roles plant_k (weighing 5 5) unheld ≡ found (holding On) (tally 5) 3
+  pub tie_plain : plain_bound tallies (asking (weighing 5 5) unheld) ≡ tally 10
+  pub tie_bound : bound tallies (asking (weighing 5 5) unheld) ≡ tally 5
+  pub tie_select : select tallies lowest (asking (weighing 5 5) unheld) ≡ found (holding On) (tally 5) 3
   -- 3: no figure above zero
-  pub zero_select : select tallies lowest roles plant_k (weighing 0 0) unheld ≡ found_none 1
+  pub zero_select : select tallies lowest (asking (weighing 0 0) unheld) ≡ found_none 1
   -- 4: none above zero with the option held off
-  pub held_select : select tallies lowest roles plant_k (weighing 0 7) (holding Off) ≡ found_none 1
+  pub held_select : select tallies lowest (asking (weighing 0 7) (holding Off)) ≡ found_none 1
   -- 5: peaks of 9,000 W and 4,000 W
-  pub peak_bound : bound peaks roles (loading 9000 4000) plant_k unheld ≡ Load (load 9000)
-  pub peak_select : select peaks lowest roles plant_k (loading 9000 4000) unheld ≡ found (holding Off) (Load (load 9000)) 3
+  pub peak_bound : bound peaks (asking (loading 9000 4000) unheld) ≡ Load (load 9000)
+  pub peak_select : select peaks lowest (asking (loading 9000 4000) unheld) ≡ found (holding Off) (Load (load 9000)) 3
   -- 6: an and of nodes 3 and 0, which both mention the chance
   pub shared : refusal (verdict roles (begun (all (3 ∷ 0 ∷ []) ∷ fork 2 2 5 ∷ []))) ≡ Some (10, 5)
   -- 7: the root's branches exchanged
@@ -90,5 +95,5 @@ pub record Worked : Type 0 where
   -- 10: one branch of the root mentions the chance, the other does not
   pub uneven : refusal (verdict roles (lit 1 true ∷ lit 1 false ∷ lit 2 true ∷ all (1 ∷ 2 ∷ []) ∷ fork 1 0 3 ∷ [])) ≡ Some (12, 4)
   -- 11: a sum that reaches the cap, and one that would pass it
-  pub at_cap : figure tallies coin (chances (false ∷ [])) (tally 9223372036854775808 ∷ tally 9223372036854775807 ∷ []) (selected unheld) ≡ tally 18446744073709551615
-  pub past_cap : figure tallies coin (chances (false ∷ [])) (tally 9223372036854775808 ∷ tally 9223372036854775808 ∷ []) (selected unheld) ≡ tally 18446744073709551615
+  pub at_cap : figure tallies (false ∷ []) coin (tally 9223372036854775808 ∷ tally 9223372036854775807 ∷ []) (selected unheld) ≡ tally 18446744073709551615
+  pub past_cap : figure tallies (false ∷ []) coin (tally 9223372036854775808 ∷ tally 9223372036854775808 ∷ []) (selected unheld) ≡ tally 18446744073709551615

@@ -1,4 +1,4 @@
--- The refusals of a study: each fault's number, place and layer.
+-- The refusals of a study: each fault's number, turn, place and layer.
 use Rattle.std.specs.Prelude.{ℕ}
 use Rattle.text.specs.declared.fault.Layer.{Layer}
 use Rattle.text.specs.declared.fault.Layer.TheVariants as layer
@@ -17,6 +17,10 @@ fault_number (Held v) = 18
 fault_number (NotHeld v) = 19
 fault_number StillFree = 20
 fault_number ShortWork = 21
+
+-- when a call tries a refusal: by rising number
+abbrev pub turn : Fault → ℕ
+turn f = fault_number f
 
 -- the place of a fault of a layer below, the variable that was given, or the line of a weight text, else 0
 abbrev pub fault_place : Fault → ℕ

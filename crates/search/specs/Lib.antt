@@ -9,4 +9,5 @@ pub mod Day
 pub mod Cases
 pub mod Listing
 pub mod Walk
+pub mod Plans
 pub mod Weights

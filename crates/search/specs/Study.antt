@@ -1,12 +1,12 @@
 -- The calls of a study: which refusals can meet them, and what follows.
 use Rattle.std.specs.Prelude.{ℕ, ◌*◌, Bool, not, ◌&&◌, List, [], ◌∷◌, length, replicate, Some, None, Option, Ok, Err, Result, nat_lt, if◌then◌else◌}
 use Rattle.std.specs.List.{list_any, range_with_len}
-use Rattle.table.specs.Circuit.{Shape}
 use Rattle.table.specs.Sound.{Roles, is_option, options, known}
 use Rattle.passes.specs.Holding.{Entries, entry, is_free}
 use Rattle.passes.specs.Marks.{entry_at}
 use Rattle.passes.specs.declared.holds.Entry.TheVariants.{Free}
 use Rattle.passes.specs.Places.{pair_places}
+use Rattle.passes.specs.Problem.{Problem}
 use Rattle.search.specs.declared.fault.Fault.{Fault}
 use Rattle.search.specs.declared.fault.Fault.TheVariants.{ShortSheet, StrayHold, NoOption, NoChance, Held, NotHeld, StillFree, ShortWork}
 
@@ -70,27 +70,33 @@ not_held h v = (is_free (entry_at h v), NotHeld v)
 abbrev pub short_work : ℕ → ℕ → Bool × Fault
 short_work size wanted = (nat_lt size wanted, ShortWork)
 
--- The refusals that each call can meet, by rising number.
+-- The refusals that each call can meet, in the order in which it tries them.
 
-module _ (rs : Roles) where
-  abbrev pub hold_tests : Entries → ℕ → Tests
-  hold_tests h v = stray_hold rs h ∷ no_option rs v ∷ held_already h v ∷ []
+abbrev pub hold_tests : Roles → Entries → ℕ → Tests
+hold_tests rs h v = stray_hold rs h ∷ no_option rs v ∷ held_already h v ∷ []
 
-  abbrev pub release_tests : Entries → ℕ → Tests
-  release_tests h v = stray_hold rs h ∷ no_option rs v ∷ not_held h v ∷ []
+abbrev pub release_tests : Roles → Entries → ℕ → Tests
+release_tests rs h v = stray_hold rs h ∷ no_option rs v ∷ not_held h v ∷ []
 
-  abbrev pub weigh_tests : (sheet-size : ℕ) → Entries → ℕ → Tests
-  weigh_tests n h v = short_sheet rs n ∷ stray_hold rs h ∷ no_chance rs v ∷ []
+-- of a table with holds and a sheet
+module _ {F : Type 0} (p : Problem F) where
+  abbrev pub weigh_tests : ℕ → Tests
+  weigh_tests v = short_sheet p.roles (length p.sheet) ∷ stray_hold p.roles p.holds ∷ no_chance p.roles v ∷ []
 
-  module _ (ss : List Shape) (sheet-size work-size : ℕ) where
-    abbrev pub figure_tests : Entries → Tests
-    figure_tests h = short_sheet rs sheet-size ∷ stray_hold rs h ∷ still_free rs h ∷ short_work work-size (length ss) ∷ []
+  -- with a work table of so many figures
+  module _ (work-size : ℕ) where
+    abbrev pub figure_tests : Tests
+    figure_tests =
+        short_sheet p.roles (length p.sheet) ∷ stray_hold p.roles p.holds ∷ still_free p.roles p.holds
+        ∷ short_work work-size (length p.circuit) ∷ []
 
     -- bound and select
-    abbrev pub bound_tests : Entries → Tests
-    bound_tests h = short_sheet rs sheet-size ∷ stray_hold rs h ∷ short_work work-size (pair_places rs ss) ∷ []
+    abbrev pub bound_tests : Tests
+    bound_tests =
+        short_sheet p.roles (length p.sheet) ∷ stray_hold p.roles p.holds
+        ∷ short_work work-size (pair_places p.roles p.circuit) ∷ []
 
-    abbrev pub trial_tests : Entries → ℕ → Tests
-    trial_tests h v =
-        short_sheet rs sheet-size ∷ stray_hold rs h ∷ no_option rs v ∷ held_already h v
-        ∷ short_work work-size (pair_places rs ss) ∷ []
+    abbrev pub trial_tests : ℕ → Tests
+    trial_tests v =
+        short_sheet p.roles (length p.sheet) ∷ stray_hold p.roles p.holds ∷ no_option p.roles v ∷ held_already p.holds v
+        ∷ short_work work-size (pair_places p.roles p.circuit) ∷ []

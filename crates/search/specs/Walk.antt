@@ -1,12 +1,11 @@
 -- The loop of branch and bound: a branch is opened, a trail leads to it, and the loop goes back along it.
 use Rattle.std.specs.Prelude.{ℕ, zero, suc, false, List, Some, None, Option, get_or, slice_set, if◌then◌else◌}
-use Rattle.kinds.specs.Semiring.{Semiring}
 use Rattle.passes.specs.Holding.{Entries}
 use Rattle.passes.specs.Marks.{with_entry}
 use Rattle.passes.specs.declared.holds.Entry.TheVariants.{Free, Off}
 use Rattle.search.specs.declared.found.Found.{Found}
 use Rattle.search.specs.declared.trail.Branch.{Branch}
-use Rattle.search.specs.Select.{Branching, best_figure, opened, offered}
+use Rattle.search.specs.Select.{Branching, opened, counted}
 
 -- the option to branch on, where at most k options are free
 abbrev pub next_at : ℕ → Option ℕ → Option ℕ
@@ -14,11 +13,11 @@ next_at zero o = None
 next_at (suc k) o = o
 
 -- one branch opened, where at most k options are free: the option to branch on, if anything follows, and what is found
-unfoldable pub turn : {F : Type 0} → Semiring F → Branching F → ℕ → Entries → Found F → Option ℕ × Found F
-turn R p k h s =
-    if R.upto (p.bound_of h) (best_figure R s.best) then (None, opened s)
-    else (elim (next_at k (p.next h)) [
-      | None ↦ (None, offered R h (p.figure_of h) (opened s))
+unfoldable pub turn : {F : Type 0} → Branching F → ℕ → Entries → Found F → Option ℕ × Found F
+turn b k h s =
+    if b.cuts h s.best then (None, opened s)
+    else (elim (next_at k (b.next h)) [
+      | None ↦ (None, counted b h (opened s))
       | Some v ↦ (Some v, opened s)
     ])
 

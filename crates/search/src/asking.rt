@@ -1,16 +1,8 @@
 //! The calls of a study that answer a figure. A refused call changes nothing.
-// A study's parts are lent one by one, as in `study`: a call's signature shows what it may change.
-ghost use Rattle.std.specs.Prelude.{◌≡◌, ◌≤◌, false, length, is_ok};
-ghost use Rattle.table.specs.Count.{figure as figure_of};
-ghost use Rattle.table.specs.Sound.{chances};
-ghost use Rattle.table.specs.Whole.{circuit, roles};
-ghost use Rattle.passes.specs.Holding.{selected};
-ghost use Rattle.passes.specs.Passes.{bound as bound_of};
-ghost use Rattle.search.specs.Best.{BestOrNone};
-ghost use Rattle.search.specs.Calls.{counts_left, pairs_left, BehindKept};
-ghost use Rattle.search.specs.Day.{Bounded};
-ghost use Rattle.search.specs.Select.{select as select_of};
-ghost use Rattle.search.specs.Study.{answered, changed_to, figure_tests, bound_tests};
+ghost use Rattle.std.specs.Prelude.{◌≡◌, false, length, is_ok, IfOk};
+ghost use Rattle.passes.specs.Bounding.{Bounded};
+ghost use Rattle.search.specs.Best.{FoundBest};
+ghost use Rattle.search.specs.Calls.{BehindKept, asked, figure_answer, figure_leaves, bound_answer, bound_leaves, select_answer};
 
 use crate::fault::Fault;
 use crate::found::Found;
@@ -31,9 +23,9 @@ pub fn figure<K: Figure>(
     sheet: &Sheet<K>,
     work: &mut [K],
 ) -> Result<K, Fault>
-    ensures answer { result ≡ answered (figure_tests (roles table.now) (circuit table.now) (length sheet.now.figures.now) (length work.old) holds.now.entries) (figure_of K.ring (circuit table.now) (chances (roles table.now)) sheet.now.figures.now (selected holds.now.entries)) }
+    ensures answer { result ≡ figure_answer K.ring (asked table.now holds.now sheet.now) (length work.old) }
     ensures behind { BehindKept table.now work.old work.new }
-    ensures work { work.new ≡ changed_to (figure_tests (roles table.now) (circuit table.now) (length sheet.now.figures.now) (length work.old) holds.now.entries) (counts_left K.ring table.now holds.now.entries sheet.now.figures.now work.old) work.old }
+    ensures work { work.new ≡ figure_leaves K.ring (asked table.now holds.now sheet.now) work.old }
 {
     require_sheet(table, sheet.figures.len())?;
     require_no_stray(table, holds)?;
@@ -54,10 +46,10 @@ pub fn bound<K: Figure>(
     sheet: &Sheet<K>,
     work: &mut [K],
 ) -> Result<K, Fault>
-    ensures answer { result ≡ answered (bound_tests (roles table.now) (circuit table.now) (length sheet.now.figures.now) (length work.old) holds.now.entries) (bound_of K.ring (roles table.now) sheet.now.figures.now (circuit table.now) holds.now.entries) }
+    ensures answer { result ≡ bound_answer K.ring (asked table.now holds.now sheet.now) (length work.old) }
     ensures behind { BehindKept table.now work.old work.new }
-    ensures bounded { Bounded K.ring (roles table.now) (circuit table.now) holds.now.entries sheet.now.figures.now (bound_of K.ring (roles table.now) sheet.now.figures.now (circuit table.now) holds.now.entries) }
-    ensures work { work.new ≡ changed_to (bound_tests (roles table.now) (circuit table.now) (length sheet.now.figures.now) (length work.old) holds.now.entries) (pairs_left K.ring table.now holds.now.entries sheet.now.figures.now work.old) work.old }
+    ensures bounded { IfOk result (Bounded K.ring (asked table.now holds.now sheet.now)) }
+    ensures work { work.new ≡ bound_leaves K.ring (asked table.now holds.now sheet.now) work.old }
 {
     require_sheet(table, sheet.figures.len())?;
     require_no_stray(table, holds)?;
@@ -78,8 +70,9 @@ pub fn select<K: Figure, O: BranchingOrder<K>>(
     work: &mut [K],
     order: &O,
 ) -> Result<Found<K>, Fault>
-    ensures answer { result ≡ answered (bound_tests (roles table.now) (circuit table.now) (length sheet.now.figures.now) (length work.old) holds.now.entries) (select_of K.ring (O.picks order.now) (roles table.now) (circuit table.now) sheet.now.figures.now holds.now.entries) }
-    ensures best { length (roles table.now) ≤ length holds.now.entries → BestOrNone K.ring (roles table.now) (circuit table.now) sheet.now.figures.now holds.now.entries (select_of K.ring (O.picks order.now) (roles table.now) (circuit table.now) sheet.now.figures.now holds.now.entries).best }
+    ensures answer { let p = asked table.now holds.now sheet.now in
+        result ≡ select_answer K.ring p (length work.old) (O.picks order.now) }
+    ensures best { IfOk result (FoundBest K.ring (asked table.now holds.now sheet.now) (O.picks order.now)) }
     ensures behind { BehindKept table.now work.old work.new }
     ensures refused { is_ok result ≡ false → work.new ≡ work.old }
 {
@@ -91,5 +84,5 @@ pub fn select<K: Figure, O: BranchingOrder<K>>(
         sheet: sheet.figures,
         order,
     };
-    Ok(plan.explore(holds, work))
+    Ok(plan.explore(*holds, work))
 }

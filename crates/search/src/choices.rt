@@ -3,9 +3,7 @@ ghost use Rattle.std.specs.Prelude.{◌≡◌, ◌+◌, ◌<◌, ◌≤◌, [], 
 ghost use Rattle.table.specs.Whole.{circuit, roles};
 ghost use Rattle.passes.specs.Places.{stride};
 ghost use Rattle.search.specs.Listing.{choices_from, root_mentions, choices as choices_of};
-ghost use Rattle.search.specs.Orders.{told};
-ghost use Rattle.search.specs.Select.{named};
-ghost use Rattle.search.specs.Walk.{next_at};
+ghost use Rattle.search.specs.Plans.{plan_next};
 
 use crate::choice::Choice;
 use crate::order::BranchingOrder;
@@ -14,7 +12,6 @@ use kinds::figure::Figure;
 use passes::holds::{Entry, Holds};
 use table::table::Table;
 
-// Six parameters: a struct of them would be made for each option, and serve this call alone.
 /// Lists an option behind the first `count` choices if it is free: how many there are then.
 /// `index` options come before it.
 fn list_choice(
@@ -28,7 +25,8 @@ fn list_choice(
     requires variable { 0 < variable }
     requires index { index ≤ 64 }
     requires count { count < length out.old }
-    ensures listed { take result out.new ≡ take count out.old ++ choices_from (root_mentions (circuit table.now)) holds.now.entries index (variable ∷ []) }
+    ensures listed { let more = choices_from (root_mentions (circuit table.now)) holds.now.entries index (variable ∷ []) in
+        take result out.new ≡ take count out.old ++ more }
     ensures few { result ≤ count + 1 }
 {
     if holds.entry(variable) != Entry::Free {
@@ -63,12 +61,11 @@ impl<K: Figure, O: BranchingOrder<K>> Plan<'_, K, O> {
     /// free. `part` is the root's part of the work table.
     pub(crate) fn next_option(&self, holds: &Holds, levels: usize, part: &[K]) -> Option<u16>
         requires { length part.now ≡ stride (roles self.now.table.now) }
-        ensures { result ≡ next_at levels (named (O.picks self.now.order.now) (told K.ring part.now (choices_of (roles self.now.table.now) (circuit self.now.table.now) holds.now.entries))) }
+        ensures { result ≡ plan_next K.ring (O.picks self.now.order.now) self.now holds.now levels part.now }
     {
         if levels == 0 {
             return None;
         }
-        // An array with a count: the engine has no heap.
         let mut choices = [Choice {
             option: 0,
             mentioned: false,

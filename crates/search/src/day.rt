@@ -1,9 +1,7 @@
 //! A working day: a list of calls on one new study.
-// A study's parts are lent one by one, as in `study`: a call's signature shows what it may change.
-ghost use Rattle.std.specs.Prelude.{◌≡◌, length, take, drop};
-ghost use Rattle.table.specs.Whole.{circuit, roles};
+ghost use Rattle.std.specs.Prelude.{◌≡◌, length, drop};
 ghost use Rattle.search.specs.Calls.{BehindKept};
-ghost use Rattle.search.specs.Day.{Day, DaysAgree, NoStrays, new, book_of, answer, after};
+ghost use Rattle.search.specs.Day.{NewDay, DaysAgree, NoStrays, study_of, book_of, answer, after};
 
 use crate::asking::{bound, figure, select};
 use crate::call::{Call, Reply};
@@ -16,7 +14,6 @@ use passes::holds::Holds;
 use passes::sheet::Sheet;
 use table::table::Table;
 
-// Clause `same`: a type's invariant cannot speak of before and after, and a name would say no more.
 /// Answers one call.
 pub fn ask<K: Figure, O: BranchingOrder<K>>(
     table: &Table,
@@ -24,16 +21,18 @@ pub fn ask<K: Figure, O: BranchingOrder<K>>(
     holds: &mut Holds,
     sheet: &mut Sheet<K>,
     work: &mut [K],
-    call: Call<K>,
+    call: &Call<K>,
 ) -> Result<Reply<K>, Fault>
-    ensures answer { result ≡ answer K.ring (O.picks order.now) (roles table.now) (circuit table.now) (length work.old) (book_of holds.old sheet.old.figures.now) call }
-    ensures holds { holds.new.entries ≡ (after (roles table.now) (circuit table.now) (length work.old) (book_of holds.old sheet.old.figures.now) call).holds }
+    ensures answer { let s = study_of table.now (O.picks order.now) work.old in
+        result ≡ answer K.ring s (book_of holds.old sheet.old) call.now }
+    ensures holds { let s = study_of table.now (O.picks order.now) work.old in
+        holds.new.entries ≡ (after K.ring s (book_of holds.old sheet.old) call.now).holds }
     ensures work { BehindKept table.now work.old work.new }
     ensures same { sheet.new.figures.ghost_name ≡ sheet.old.figures.ghost_name }
-    ensures sheet { sheet.new.figures.now ≡ (after (roles table.now) (circuit table.now) (length work.old) (book_of holds.old sheet.old.figures.now) call).sheet }
+    ensures sheet { let s = study_of table.now (O.picks order.now) work.old in
+        sheet.new.figures.now ≡ (after K.ring s (book_of holds.old sheet.old) call.now).sheet }
 {
-    // A match, and no closures or `dyn`: a day lists its calls as plain data.
-    match call {
+    match *call {
         Call::Hold { variable, on } => hold(table, holds, variable, on).map(|_| Reply::Done),
         Call::Release { variable } => release(table, holds, variable).map(|_| Reply::Done),
         Call::Weigh { variable, on, off } => weigh(table, holds, sheet, variable, on, off).map(
@@ -58,9 +57,10 @@ pub fn work_day<K: Figure, O: BranchingOrder<K>>(
     calls: &[Call<K>],
     answers: &mut [Result<Reply<K>, Fault>],
 ) -> Holds
-    ensures day { Day K.ring (O.picks order.now) (roles table.now) (circuit table.now) (length work.old) (new sheet.old.figures.now) (take (length answers.old) calls.now) (take (length calls.now) answers.new) (book_of result sheet.new.figures.now) }
-    ensures only { DaysAgree K.ring (O.picks order.now) (roles table.now) (circuit table.now) (length work.old) }
-    ensures own { NoStrays K.ring (O.picks order.now) (roles table.now) (circuit table.now) (length work.old) }
+    ensures day { let s = study_of table.now (O.picks order.now) work.old in
+        NewDay K.ring s sheet.old.figures.now calls.now answers.new (book_of result sheet.new) }
+    ensures only { DaysAgree K.ring (study_of table.now (O.picks order.now) work.old) }
+    ensures own { NoStrays K.ring (study_of table.now (O.picks order.now) work.old) }
     ensures behind { drop (length calls.now) answers.new ≡ drop (length calls.now) answers.old }
     ensures work { BehindKept table.now work.old work.new }
     ensures same { sheet.new.figures.ghost_name ≡ sheet.old.figures.ghost_name }
@@ -69,7 +69,7 @@ pub fn work_day<K: Figure, O: BranchingOrder<K>>(
     let count = calls.len().min(answers.len());
     // By place: of what is written through `zip` and `iter_mut` a proof knows the length alone.
     for (i, call) in calls[..count].iter().enumerate() {
-        answers[i] = ask(table, order, &mut holds, sheet, work, *call);
+        answers[i] = ask(table, order, &mut holds, sheet, work, call);
     }
     holds
 }

@@ -1,8 +1,9 @@
 //! Branch and bound: a loop with a trail.
 ghost use Rattle.std.specs.Prelude.{◌≡◌, ◌^◌, ◌<◌, ◌≤◌, length};
-ghost use Rattle.table.specs.Whole.{circuit, roles};
+ghost use Rattle.search.specs.Best.{FoundBest};
 ghost use Rattle.search.specs.Calls.{places, BehindKept};
-ghost use Rattle.search.specs.Select.{best_figure, offered, of_table, select};
+ghost use Rattle.search.specs.Plans.{plan_asks, plan_branching};
+ghost use Rattle.search.specs.Select.{best_figure, beats, offered};
 ghost use Rattle.search.specs.Walk.{turn, back};
 
 use crate::found::{Found, Selection};
@@ -24,7 +25,7 @@ impl<K: Figure> Found<K> {
 
     /// Takes a selection that ranks above the best so far.
     fn offer(&mut self, holds: &Holds, figure: K)
-        ensures { self.new ≡ offered K.ring holds.now.entries figure self.old }
+        ensures { self.new ≡ offered (beats K.ring figure self.old.best) holds.now.entries figure self.old }
     {
         if !figure.no_higher(self.figure_to_beat()) {
             self.best = Some(Selection {
@@ -70,8 +71,10 @@ impl<K: Figure, O: BranchingOrder<K>> Plan<'_, K, O> {
     ) -> Option<u16>
         requires room { places self.now.table.now ≤ length work.old }
         requires few { found.old.openings < 2 ^ 63 }
-        ensures option { result ≡ (turn K.ring (of_table K.ring (O.picks self.now.order.now) (roles self.now.table.now) (circuit self.now.table.now) self.now.sheet.now) levels holds.now.entries found.old).0 }
-        ensures found { found.new ≡ (turn K.ring (of_table K.ring (O.picks self.now.order.now) (roles self.now.table.now) (circuit self.now.table.now) self.now.sheet.now) levels holds.now.entries found.old).1 }
+        ensures option { let b = plan_branching K.ring (O.picks self.now.order.now) self.now holds.now in
+            result ≡ (turn b levels holds.now.entries found.old).0 }
+        ensures found { let b = plan_branching K.ring (O.picks self.now.order.now) self.now holds.now in
+            found.new ≡ (turn b levels holds.now.entries found.old).1 }
         ensures work { BehindKept self.now.table.now work.old work.new }
     {
         let query = Query {
@@ -95,21 +98,20 @@ impl<K: Figure, O: BranchingOrder<K>> Plan<'_, K, O> {
         next
     }
 
-    /// The best selection that keeps the holds: opens every branch that the bound does not rule
+    /// The best selection that keeps the holds that it starts with: opens every branch that the bound does not rule
     /// out, on before off.
-    pub(crate) fn explore(&self, holds: &Holds, work: &mut [K]) -> Found<K>
+    pub(crate) fn explore(&self, start: Holds, work: &mut [K]) -> Found<K>
         requires room { places self.now.table.now ≤ length work.old }
-        ensures found { result ≡ select K.ring (O.picks self.now.order.now) (roles self.now.table.now) (circuit self.now.table.now) self.now.sheet.now holds.now.entries }
+        ensures best { FoundBest K.ring (plan_asks self.now start) (O.picks self.now.order.now) result }
         ensures work { BehindKept self.now.table.now work.old work.new }
     {
         let levels = self.table.variables.options();
-        // An array with a depth: the engine has no heap.
         let mut trail = [Branch {
             option: 0,
             on: false,
         }; 64];
         let mut depth = 0;
-        let mut current = *holds;
+        let mut current = start;
         let mut found = Found {
             best: None,
             openings: 0,

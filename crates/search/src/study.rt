@@ -1,10 +1,9 @@
 //! The calls of a study on its holds and its sheet. A refused call changes nothing.
-// No struct holds a study: its parts are lent one by one, so that a call's signature shows what the
-// call may change.
-ghost use Rattle.std.specs.Prelude.{◌≡◌, length};
+ghost use Rattle.std.specs.Prelude.{◌≡◌};
 ghost use Rattle.table.specs.Whole.{roles};
 ghost use Rattle.passes.specs.Marks.{with_entry, held};
 ghost use Rattle.passes.specs.declared.holds.Entry.TheVariants.{Free};
+ghost use Rattle.search.specs.Calls.{asked};
 ghost use Rattle.search.specs.Day.{weighed};
 ghost use Rattle.search.specs.Study.{answered, changed_to, hold_tests, release_tests, weigh_tests};
 
@@ -20,7 +19,8 @@ use table::table::Table;
 /// Holds a free option on (or off).
 pub fn hold(table: &Table, holds: &mut Holds, variable: u16, on: bool) -> Result<(), Fault>
     ensures answer { result ≡ answered (hold_tests (roles table.now) holds.old.entries variable) tt }
-    ensures holds { holds.new.entries ≡ changed_to (hold_tests (roles table.now) holds.old.entries variable) (with_entry holds.old.entries variable (held on)) holds.old.entries }
+    ensures holds { let tests = hold_tests (roles table.now) holds.old.entries variable in
+        holds.new.entries ≡ changed_to tests (with_entry holds.old.entries variable (held on)) holds.old.entries }
 {
     require_no_stray(table, holds)?;
     require_option(table, variable)?;
@@ -32,7 +32,8 @@ pub fn hold(table: &Table, holds: &mut Holds, variable: u16, on: bool) -> Result
 /// Sets a held option free.
 pub fn release(table: &Table, holds: &mut Holds, variable: u16) -> Result<(), Fault>
     ensures answer { result ≡ answered (release_tests (roles table.now) holds.old.entries variable) tt }
-    ensures holds { holds.new.entries ≡ changed_to (release_tests (roles table.now) holds.old.entries variable) (with_entry holds.old.entries variable Free) holds.old.entries }
+    ensures holds { let tests = release_tests (roles table.now) holds.old.entries variable in
+        holds.new.entries ≡ changed_to tests (with_entry holds.old.entries variable Free) holds.old.entries }
 {
     require_no_stray(table, holds)?;
     require_option(table, variable)?;
@@ -41,7 +42,6 @@ pub fn release(table: &Table, holds: &mut Holds, variable: u16) -> Result<(), Fa
     Ok(())
 }
 
-// Clause `same`: a type's invariant cannot speak of before and after, and a name would say no more.
 /// Writes a chance's two weights.
 pub fn weigh<K: Figure>(
     table: &Table,
@@ -51,9 +51,10 @@ pub fn weigh<K: Figure>(
     on: K,
     off: K,
 ) -> Result<(), Fault>
-    ensures answer { result ≡ answered (weigh_tests (roles table.now) (length sheet.old.figures.now) holds.now.entries variable) tt }
+    ensures answer { result ≡ answered (weigh_tests (asked table.now holds.now sheet.old) variable) tt }
     ensures same { sheet.new.figures.ghost_name ≡ sheet.old.figures.ghost_name }
-    ensures sheet { sheet.new.figures.now ≡ changed_to (weigh_tests (roles table.now) (length sheet.old.figures.now) holds.now.entries variable) (weighed sheet.old.figures.now variable on off) sheet.old.figures.now }
+    ensures sheet { let tests = weigh_tests (asked table.now holds.now sheet.old) variable in
+        sheet.new.figures.now ≡ changed_to tests (weighed sheet.old.figures.now variable on off) sheet.old.figures.now }
 {
     require_sheet(table, sheet.figures.len())?;
     require_no_stray(table, holds)?;

@@ -1,12 +1,10 @@
 //! A trial: the bound as it would be with one option held.
-// A study's parts are lent one by one, as in `study`: a call's signature shows what it may change.
-ghost use Rattle.std.specs.Prelude.{◌≡◌, ◌*◌, ◌<◌, ◌≤◌, false, length, is_ok};
-ghost use Rattle.table.specs.Whole.{circuit, roles};
-ghost use Rattle.passes.specs.Marks.{with_entry, held};
+ghost use Rattle.std.specs.Prelude.{◌≡◌, ◌*◌, ◌<◌, ◌≤◌, false, length, is_ok, IfOk};
+ghost use Rattle.table.specs.Whole.{roles};
+ghost use Rattle.passes.specs.Bounding.{Bounded};
 ghost use Rattle.passes.specs.Passes.{bound as bound_of};
-ghost use Rattle.search.specs.Calls.{places, BehindKept};
-ghost use Rattle.search.specs.Day.{Bounded};
-ghost use Rattle.search.specs.Study.{answered, trial_tests};
+ghost use Rattle.passes.specs.Problem.{problem_of};
+ghost use Rattle.search.specs.Calls.{places, BehindKept, asked, tried, trial_answer};
 
 use crate::fault::Fault;
 use crate::guard::Trial;
@@ -33,7 +31,7 @@ fn bound_if_held<K: Figure>(
     requires known { (0 < variable) × (variable ≤ 64) }
     requires room { places table.now ≤ length work.old }
     requires sheet { 2 * length (roles table.now) ≤ length sheet.now }
-    ensures value { result ≡ bound_of K.ring (roles table.now) sheet.now (circuit table.now) (with_entry holds.old.entries variable (held on)) }
+    ensures value { result ≡ bound_of K.ring (tried (problem_of table.now holds.old.entries sheet.now) variable on) }
     ensures same { holds.new.entries ≡ holds.old.entries }
     ensures behind { BehindKept table.now work.old work.new }
 {
@@ -63,8 +61,9 @@ pub fn trial<K: Figure>(
     variable: u16,
     on: bool,
 ) -> Result<K, Fault>
-    ensures answer { result ≡ answered (trial_tests (roles table.now) (circuit table.now) (length sheet.now.figures.now) (length work.old) holds.old.entries variable) (bound_of K.ring (roles table.now) sheet.now.figures.now (circuit table.now) (with_entry holds.old.entries variable (held on))) }
-    ensures bounded { Bounded K.ring (roles table.now) (circuit table.now) (with_entry holds.old.entries variable (held on)) sheet.now.figures.now (bound_of K.ring (roles table.now) sheet.now.figures.now (circuit table.now) (with_entry holds.old.entries variable (held on))) }
+    ensures answer { let p = asked table.now holds.old sheet.now in
+        result ≡ trial_answer K.ring p (length work.old) variable on }
+    ensures bounded { IfOk result (Bounded K.ring (tried (asked table.now holds.old sheet.now) variable on)) }
     ensures holds { holds.new.entries ≡ holds.old.entries }
     ensures behind { BehindKept table.now work.old work.new }
     ensures refused { is_ok result ≡ false → work.new ≡ work.old }

@@ -1,10 +1,10 @@
 use Rattle.std.proofs.Common.{rules, ◌≡◌, ℕ, suc, ◌+◌, ◌*◌, ◌<◌, length, drop, replicate, None, Some, sym, subst, refl, ap, ◌∙◌, arith}
 use Rattle.std.proofs.lemmas.Bool.{cond-true, cond-false}
 use Rattle.std.proofs.lemmas.List.{take_all}
-use Rattle.table.specs.Circuit.{mentions}
-use Rattle.table.specs.Facts.{Among, about}
-use Rattle.table.specs.Whole.{circuit, roles}
-use Rattle.passes.specs.Rows.{open_at, side_or_zero, sides_by, lower, least_in_row}
+use Rattle.table.specs.Facts.{Among}
+use Rattle.table.specs.Whole.{roles}
+use Rattle.passes.specs.Problem.{problem}
+use Rattle.passes.specs.Rows.{open_in, side_or_zero, sides_by, lower, least_in_row}
 use Rattle.passes.proofs.Chains.{filled}
 use Rattle.passes.proofs.Closed.{row_closed, least_closed}
 use Rattle.passes.proofs.Options.{option_there}
@@ -25,12 +25,11 @@ loop-j-init g c = record { row = refl; least_is = refl }
 pub loop-j-preserved : goal.loop-j-preserved
 loop-j-preserved g c =
     let s = c.args.self.now in
-    let q = s.query.now in
     let R = g.K.Figure.ring in
-    let ss = circuit q.table.now in
-    let side = side_or_zero R (mentions ss) s.values.stride s.values.places.now (roles q.table.now) q.holds.now.entries ss s.node in
+    let p = problem s.query.now in
+    let side = side_or_zero R p s.values.stride s.values.places.now s.node in
     let long : length c.loop-j.part ≡ 2 * length s.options.now + 1 = c.loop-j.auto.part ∙ c.requires ∙ s.stride ∙ ap (λ vs. 2 * length vs + 1) (sym s.listed) in
-    let more = rowed_more R side (open_at q.holds.now.entries (about ss s.node)) s.options.now c.loop-j.part c.loop-j.least c.if-is_open.least c.loop-j.j in
+    let more = rowed_more R side (open_in p s.node) s.options.now c.loop-j.part c.loop-j.least c.if-is_open.least c.loop-j.j in
     elim c.if-is_open.branch [
       | then-is_open w ↦ (let taken = sym c.is_open.ensures ∙ w.if-is_open.true in
           rw w.part-is (more _ _ c.loop-j-test.true long c.loop-j.invariant (w.sides-sides.ensures.on ∙ sym (cond-true _ _ _ taken)) (w.sides-sides.ensures.off ∙ sym (cond-true _ _ _ taken))
@@ -43,23 +42,21 @@ loop-j-preserved g c =
 pub returns-then-self-eq0 : goal.returns-then-self-eq0
 returns-then-self-eq0 g c =
     let s = c.args.self.now in
-    let q = s.query.now in
     let R = g.K.Figure.ring in
-    let ss = circuit q.table.now in
-    let zeros : c.fill_with.new.self ≡ replicate (length c.fill_with.new.self) R.zero = filled _ _ _ _ _ (λ x p k. search rules) c.fill_with.ensures.ran.1 in
+    let p = problem s.query.now in
+    let zeros : c.fill_with.new.self ≡ replicate (length c.fill_with.new.self) R.zero = filled _ _ _ _ _ (λ x y k. search rules) c.fill_with.ensures.ran.1 in
     let wide = s.stride ∙ ap (λ vs. 2 * length vs + 1) (sym s.listed) in
     let long : length c.fill_with.new.self ≡ suc (2 * length s.options.now) = c.fill_with.ensures.len ∙ c.requires ∙ wide ∙ omega arith in
-    let closed = λ (v : ℕ) (m : Among v s.options.now). none_open q s.node s.free s.set c.if-self-eq0.true v (subst (Among v) s.listed m) in
+    let closed = λ (v : ℕ) (m : Among v s.options.now). none_open s.query.now s.node s.free s.set c.if-self-eq0.true v (subst (Among v) s.listed m) in
     record {
-      row = ap (drop 1) (zeros ∙ ap (λ n. replicate n R.zero) long) ∙ sym (row_closed R (roles q.table.now) q.sheet.now q.holds.now.entries ss s.values.stride s.values.places.now s.node 0 s.options.now closed);
-      least = sym (least_closed R (roles q.table.now) q.sheet.now q.holds.now.entries ss s.values.stride s.values.places.now s.node _ s.options.now closed);
+      row = ap (drop 1) (zeros ∙ ap (λ n. replicate n R.zero) long) ∙ sym (row_closed R p s.values.stride s.values.places.now s.node 0 s.options.now closed);
+      least = sym (least_closed R p s.values.stride s.values.places.now s.node _ s.options.now closed);
     }
 
 pub returns-clause-least : goal.returns-clause-least
 returns-clause-least g c =
     let s = c.args.self.now in
-    let q = s.query.now in
     let R = g.K.Figure.ring in
-    let ss = circuit q.table.now in
-    let side = side_or_zero R (mentions ss) s.values.stride s.values.places.now (roles q.table.now) q.holds.now.entries ss s.node in
-    c.loop-j.invariant.least_is ∙ ap (λ vs. least_in_row R (open_at q.holds.now.entries (about ss s.node)) (sides_by side 0 vs) None vs) (take_all c.loop-j.j s.options.now (omega (arith, c.loop-j-test.false)))
+    let p = problem s.query.now in
+    let side = side_or_zero R p s.values.stride s.values.places.now s.node in
+    c.loop-j.invariant.least_is ∙ ap (λ vs. least_in_row R (open_in p s.node) (sides_by side 0 vs) None vs) (take_all c.loop-j.j s.options.now (omega (arith, c.loop-j-test.false)))

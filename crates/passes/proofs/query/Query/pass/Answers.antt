@@ -1,6 +1,6 @@
 use Rattle.std.proofs.Common.{length}
 use Rattle.table.specs.Whole.{circuit}
-use Rattle.passes.specs.Steps.{value_in}
+use Rattle.passes.specs.NodeReads.{value_in}
 use Rattle.passes.specs.Ways.{walked}
 use Rattle.passes.proofs.Passing.{passed_more, passed_all}
 use Rattle.passes.proofs.query.Query.pass.Goals as goal

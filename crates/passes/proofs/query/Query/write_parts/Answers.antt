@@ -5,6 +5,7 @@ use Rattle.table.specs.Whole.{circuit, roles}
 use Rattle.table.proofs.Asked.{proved_sound}
 use Rattle.table.proofs.Sounds.{sound_proper}
 use Rattle.passes.specs.Passes.{pairs, work}
+use Rattle.passes.specs.Problem.{problem}
 use Rattle.passes.specs.Rows.{part_in}
 use Rattle.passes.proofs.Pairing.{parts_more, parted_all}
 use Rattle.passes.proofs.Roots.{node_count}
@@ -16,9 +17,10 @@ loop-node-preserved g c =
     let t = c.args.self.now.table.now in
     let i : ℕ = c.loop-node.node in
     let inside : i < length (circuit t) = omega (arith, c.loop-node.invariant.many) in
-    let part = ap₂ (λ s vs. part_in g.K.Figure.ring (roles t) c.args.self.now.sheet.now c.args.self.now.holds.now.entries (circuit t) s c.split_at_mut-places.result.0.now i vs) (sym c.stride-stride.ensures) c.requires.listed in
+    let p = problem c.args.self.now in
+    let part = ap₂ (λ s vs. part_in g.K.Figure.ring p s c.split_at_mut-places.result.0.now i vs) (sym c.stride-stride.ensures) c.requires.listed in
     record {
-      parts = parts_more g.K.Figure.ring (roles t) c.args.self.now.sheet.now c.args.self.now.holds.now.entries (circuit t) c.args.work.now c.stride-stride.result c.stride-stride.ensures
+      parts = parts_more g.K.Figure.ring p c.args.work.now c.stride-stride.result c.stride-stride.ensures
           (sound_proper (roles t) (circuit t) (proved_sound t)).ordered i inside c.loop-node.work _ _ _ c.loop-node.invariant.parts c.split_at_mut-places.ensures.front c.split_at_mut-places.ensures.back
           (c.write_part.ensures ∙ part);
       many = c.loop-node.invariant.many;
@@ -26,11 +28,10 @@ loop-node-preserved g c =
 
 pub returns : goal.returns
 returns g c =
-    let q = c.args.self.now in
-    let t = q.table.now in
-    parted_all g.K.Figure.ring (roles t) q.sheet.now q.holds.now.entries (circuit t) c.args.work.now c.stride-stride.result
-    (length t.nodes.now) c.loop-node.node c.loop-node.work c.loop-node.invariant c.loop-node.auto.node-end c.loop-node-test.false
-    ∙ ap (λ s. work g.K.Figure.ring (roles t) q.sheet.now (pairs g.K.Figure.ring (roles t) q.sheet.now (circuit t) q.holds.now.entries) ++ drop (length (circuit t) * s) c.args.work.now) c.stride-stride.ensures
+    let p = problem c.args.self.now in
+    parted_all g.K.Figure.ring p c.args.work.now c.stride-stride.result
+    (length c.args.self.now.table.now.nodes.now) c.loop-node.node c.loop-node.work c.loop-node.invariant c.loop-node.auto.node-end c.loop-node-test.false
+    ∙ ap (λ s. work p.roles (pairs g.K.Figure.ring p) ++ drop (length p.circuit * s) c.args.work.now) c.stride-stride.ensures
 
 pub write_part-requires-clause-part : goal.write_part-requires-clause-part
 write_part-requires-clause-part g c =

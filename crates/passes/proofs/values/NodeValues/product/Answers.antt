@@ -1,4 +1,4 @@
-use Rattle.passes.specs.Steps.{value_in}
+use Rattle.passes.specs.NodeReads.{value_in}
 use Rattle.passes.proofs.Products.{product_all}
 use Rattle.passes.proofs.values.NodeValues.product.Goals as goal
 

@@ -1,5 +1,5 @@
 use Rattle.std.proofs.Common.{length}
-use Rattle.passes.specs.Steps.{inside, value_in}
+use Rattle.passes.specs.NodeReads.{inside, value_in}
 use Rattle.passes.proofs.Products.{Left}
 use Rattle.passes.proofs.values.NodeValues.product.Given as goal
 

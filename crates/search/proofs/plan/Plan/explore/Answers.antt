@@ -1,8 +1,10 @@
 use Rattle.std.proofs.Common.{◌≤◌, sym, refl, ap, ◌∙◌, arith}
 use Rattle.std.proofs.lemmas.Bool.{leb-true}
-use Rattle.table.specs.Whole.{circuit, roles}
+use Rattle.table.proofs.Asked.{proved_sound, variables_few}
 use Rattle.passes.proofs.Roots.{options_many}
-use Rattle.search.specs.Select.{explored, of_table, start}
+use Rattle.search.specs.Plans.{plan_asks, plan_branching}
+use Rattle.search.specs.Select.{explored, start}
+use Rattle.search.proofs.Best.{selects}
 use Rattle.search.proofs.Naming.{named_free}
 use Rattle.search.proofs.Walks.{walk_start, walk_few, walk_less, walk_fork, walk_back, walk_end}
 use Rattle.search.proofs.plan.Plan.explore.Given as given
@@ -14,12 +16,9 @@ few g c = omega (arith, c.options-levels.ensures, leb-true _ 20 c.args.self.now.
 
 pub branches-init : goal.branches-init
 branches-init g c =
-    let t = c.args.self.now.table.now in
-    let R = g.K.Figure.ring in
-    let pick = g.O.BranchingOrder.picks c.args.self.now.order.now in
-    let p = of_table R pick (roles t) (circuit t) c.args.self.now.sheet.now in
+    let plan = plan_branching g.K.Figure.ring (g.O.BranchingOrder.picks c.args.self.now.order.now) c.args.self.now c.args.start in
     record {
-      walking = walk_start R p c.options-levels.result c.args.holds.now.entries start;
+      walking = walk_start plan c.options-levels.result c.args.start.entries start;
       behind = refl;
     }
 
@@ -32,14 +31,15 @@ open-requires g c = record {
 pub returns-then-depth-eq0 : goal.returns-then-depth-eq0
 returns-then-depth-eq0 g c =
     let t = c.args.self.now.table.now in
-    let R = g.K.Figure.ring in
     let pick = g.O.BranchingOrder.picks c.args.self.now.order.now in
+    let plan = plan_branching g.K.Figure.ring pick c.args.self.now c.args.start in
     let b = c.retreat-depth.ensures in
+    let found = walk_end c.branches.invariant.walking c.open.ensures.found (few g (goal.at.returns-then-depth-eq0 g c).After-options-levels)
+    (sym c.in-None.is ∙ c.open.ensures.option) b.depth b.trail b.holds c.if-depth-eq0.true
+    ∙ ap (λ n. explored plan n c.args.start.entries start) (c.options-levels.ensures ∙ sym (options_many t)) in
     record {
-      found = walk_end c.branches.invariant.walking c.open.ensures.found (few g (goal.at.returns-then-depth-eq0 g c).After-options-levels)
-          (sym c.in-None.is ∙ c.open.ensures.option) b.depth b.trail b.holds c.if-depth-eq0.true
-          ∙ ap (λ n. explored R (of_table R pick (roles t) (circuit t) c.args.self.now.sheet.now) n c.args.holds.now.entries start)
-          (c.options-levels.ensures ∙ sym (options_many t));
+      best = rw found (selects g.K.Figure.ring g.K.Figure.laws pick (g.met.O.BranchingOrder.names c.args.self.now.order.now) (plan_asks c.args.self.now c.args.start)
+          (proved_sound t) (omega (arith, variables_few t)));
       work = c.open.ensures.work ∙ c.branches.invariant.behind;
     }
 
@@ -60,11 +60,10 @@ branches-smaller-in-Some g c = walk_less c.branches.invariant.walking c.open.ens
 
 pub branches-preserved-in-Some : goal.branches-preserved-in-Some
 branches-preserved-in-Some g c =
-    let t = c.args.self.now.table.now in
     let pick = g.O.BranchingOrder.picks c.args.self.now.order.now in
     let law = g.met.O.BranchingOrder.names c.args.self.now.order.now in
     record {
       walking = walk_fork c.branches.invariant.walking c.open.ensures.found (few g (goal.at.branches-preserved-in-Some g c).After-options-levels) (sym c.in-Some.is ∙ c.open.ensures.option)
-          (named_free g.K.Figure.ring pick law (roles t) c.branches.current.entries (circuit t) c.args.self.now.sheet.now) c.hold.ensures;
+          (named_free g.K.Figure.ring pick law (plan_asks c.args.self.now c.branches.current)) c.hold.ensures;
       behind = c.open.ensures.work ∙ c.branches.invariant.behind;
     }

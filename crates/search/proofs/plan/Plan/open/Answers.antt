@@ -4,7 +4,8 @@ use Rattle.table.specs.Whole.{circuit, roles}
 use Rattle.passes.specs.Holding.{selected}
 use Rattle.passes.specs.Places.{pair_places}
 use Rattle.passes.proofs.Roots.{some_node, node_count, last_part}
-use Rattle.search.specs.Select.{Branching, best_figure, opened, offered, of_table, named}
+use Rattle.search.specs.Plans.{plan_asks, plan_branching}
+use Rattle.search.specs.Select.{Branching, beats, opened, offered, named}
 use Rattle.search.specs.Walk.{next_at}
 use Rattle.search.proofs.Leaning.{parts_kept, counts_kept, told_leans}
 use Rattle.search.proofs.Turns.{turn_cut, turn_option, turn_leaf, turn_fork}
@@ -14,15 +15,13 @@ use Rattle.search.proofs.plan.Plan.open.Goals.{After-no_higher-cut, After-stride
 
 -- what the holds are opened by
 abbrev its : (g : given.Over) (c : After-no_higher-cut g) → Branching g.row.K.Denot
-its g c =
-    let t = c.args.self.now.table.now in
-    of_table g.K.Figure.ring (g.O.BranchingOrder.picks c.args.self.now.order.now) (roles t) (circuit t) c.args.self.now.sheet.now
+its g c = plan_branching g.K.Figure.ring (g.O.BranchingOrder.picks c.args.self.now.order.now) c.args.self.now c.args.holds.now
 
 -- whether the branch is cut
 cut_is : (g : given.Over) (c : After-no_higher-cut g) (b : Bool) → c.no_higher-cut.result ≡ b
-    → g.K.Figure.ring.upto ((its g c).bound_of c.args.holds.now.entries) (best_figure g.K.Figure.ring c.args.found.now.best) ≡ b
+    → (its g c).cuts c.args.holds.now.entries c.args.found.now.best ≡ b
 cut_is g c b e =
-    sym (ap₂ g.K.Figure.ring.upto c.pair_bound-bound.ensures.answer c.figure_to_beat.ensures) ∙ sym c.no_higher-cut.ensures ∙ e
+    sym (ap₂ g.K.Figure.ring.upto c.pair_bound-bound.ensures.bounded.is_bound c.figure_to_beat.ensures) ∙ sym c.no_higher-cut.ensures ∙ e
 
 pub returns-then-cut : goal.returns-then-cut
 returns-then-cut g c =
@@ -30,11 +29,11 @@ returns-then-cut g c =
     let R = g.K.Figure.ring in
     let a = (goal.at.returns-then-cut g c).After-no_higher-cut in
     let h = c.args.holds.now.entries in
-    let e = sym (turn_cut R (its g a) c.args.levels h c.args.found.now (cut_is g a _ c.if-cut.true)) in
+    let e = sym (turn_cut (its g a) c.args.levels h c.args.found.now (cut_is g a _ c.if-cut.true)) in
     record {
       option = ap (λ t. t.0) e;
       found = ap (λ t. t.1) e;
-      work = parts_kept R (roles t) (circuit t) c.args.self.now.sheet.now h _ _ c.pair_bound-bound.ensures.work;
+      work = parts_kept R (plan_asks c.args.self.now c.args.holds.now) _ _ c.pair_bound-bound.ensures.work;
     }
 
 -- where the root's part ends
@@ -74,7 +73,7 @@ next_is g c =
     let pick = g.O.BranchingOrder.picks c.args.self.now.order.now in
     c.next_option-next.ensures
     ∙ ap (λ ls. next_at c.args.levels (named pick ls))
-    (told_leans g.K.Figure.ring (roles t) (circuit t) c.args.self.now.sheet.now c.args.holds.now.entries stride ((length t.nodes.now - 1) * stride) _ _
+    (told_leans g.K.Figure.ring (plan_asks c.args.self.now c.args.holds.now) stride ((length t.nodes.now - 1) * stride) _ _
     c.stride-stride.ensures (omega (arith, node_count t, some_node t)) (ap (λ n. (n - 1) * stride) (sym (node_count t))) c.pair_bound-bound.ensures.work)
 
 pub returns-then-is_none : goal.returns-then-is_none
@@ -87,11 +86,11 @@ returns-then-is_none g c =
     let f = cut_is g a _ c.if-cut.false in
     let sheet = c.args.self.now.sheet.now in
     record {
-      option = is ∙ sym (turn_option R (its g a) c.args.levels h c.args.found.now f);
-      found = c.offer.ensures ∙ ap (λ f. offered R h f (opened c.args.found.now)) c.count_figure-figure.ensures.answer
-          ∙ sym (turn_leaf R (its g a) c.args.levels h c.args.found.now f (sym (ap is_some is) ∙ c.is_none.ensures ∙ ap not c.if-is_none.true));
-      work = counts_kept R (roles t) (circuit t) sheet (selected h) _ _ c.count_figure-figure.ensures.work
-          ∙ parts_kept R (roles t) (circuit t) sheet h _ _ c.pair_bound-bound.ensures.work;
+      option = is ∙ sym (turn_option (its g a) c.args.levels h c.args.found.now f);
+      found = c.offer.ensures ∙ ap (λ f. offered (beats R f c.args.found.now.best) h f (opened c.args.found.now)) c.count_figure-figure.ensures.answer
+          ∙ sym (turn_leaf (its g a) c.args.levels h c.args.found.now f (sym (ap is_some is) ∙ c.is_none.ensures ∙ ap not c.if-is_none.true));
+      work = counts_kept R (plan_asks c.args.self.now c.args.holds.now) (selected h) _ _ c.count_figure-figure.ensures.work
+          ∙ parts_kept R (plan_asks c.args.self.now c.args.holds.now) _ _ c.pair_bound-bound.ensures.work;
     }
 
 pub returns-else-is_none : goal.returns-else-is_none
@@ -103,7 +102,7 @@ returns-else-is_none g c =
     let h = c.args.holds.now.entries in
     let f = cut_is g a _ c.if-cut.false in
     record {
-      option = is ∙ sym (turn_option R (its g a) c.args.levels h c.args.found.now f);
-      found = sym (turn_fork R (its g a) c.args.levels h c.args.found.now f (sym (ap is_some is) ∙ c.is_none.ensures ∙ ap not c.if-is_none.false));
-      work = parts_kept R (roles t) (circuit t) c.args.self.now.sheet.now h _ _ c.pair_bound-bound.ensures.work;
+      option = is ∙ sym (turn_option (its g a) c.args.levels h c.args.found.now f);
+      found = sym (turn_fork (its g a) c.args.levels h c.args.found.now f (sym (ap is_some is) ∙ c.is_none.ensures ∙ ap not c.if-is_none.false));
+      work = parts_kept R (plan_asks c.args.self.now c.args.holds.now) _ _ c.pair_bound-bound.ensures.work;
     }
