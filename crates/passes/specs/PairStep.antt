@@ -1,9 +1,10 @@
 -- What the pair pass's step at a node computes, from what the step is lent.
-use Rattle.std.specs.Prelude.{ℕ, Bool, List, Option}
+use Rattle.std.specs.Prelude.{ℕ, Bool, List, map, Option}
 use Rattle.text.specs.declared.record.Node.{Node}
 use Rattle.kinds.specs.Semiring.{Semiring}
 use Rattle.table.specs.Whole.{roles}
 use Rattle.passes.specs.NodeReads.{shape_in}
+use Rattle.passes.specs.Passes.{times}
 use Rattle.passes.specs.Problem.{problem}
 use Rattle.passes.specs.Rows.{under_in, side_in, row_in, least_in}
 use Rattle.passes.specs.Ways.{made, side_way}
@@ -13,6 +14,10 @@ module _ {F : Type 0} (R : Semiring F) (s : Step F) where
   -- the value of node c under v, whose value stands at a place of its part
   abbrev pub under_here : (v place c : ℕ) → F
   under_here v place c = under_in R (problem s.query.now) s.values.stride s.values.places.now v place c
+
+  -- the product of such values of some nodes
+  abbrev pub product_here : (v place : ℕ) → List ℕ → F
+  product_here v place cs = times R (map (under_here v place) cs)
 
   -- the value of a record's node for an option on (or off)
   abbrev pub side_by_record : Bool → (v place : ℕ) → Node → F

@@ -1,12 +1,11 @@
 //! The pair pass: a value for every node, and its on and off value for each free option that it
 //! mentions.
-ghost use Rattle.std.specs.Prelude.{◌≡◌, ◌+◌, ◌*◌, ◌<◌, ◌≤◌, true, false, length, map, take, drop};
+ghost use Rattle.std.specs.Prelude.{◌≡◌, ◌+◌, ◌*◌, ◌<◌, ◌≤◌, true, false, length, take, drop};
 ghost use Rattle.std.specs.List.{list_all};
 ghost use Rattle.table.specs.Sound.{is_option, options as options_of};
 ghost use Rattle.table.specs.Whole.{circuit, roles};
 ghost use Rattle.passes.specs.NodeReads.{has_part, ranged_in, readable_in};
 ghost use Rattle.passes.specs.Open.{FreeOptions, OpenOptions};
-ghost use Rattle.passes.specs.Passes.{times};
 ghost use Rattle.passes.specs.Places.{stride, pair_places};
 ghost use Rattle.passes.specs.Problem.{problem};
 ghost use Rattle.passes.specs.Rows.{open_in, lower, part_in};
@@ -53,7 +52,7 @@ struct Step<'a, 'b, 'c, K> {
 }
 
 impl<K: Figure> Step<'_, '_, '_, K> {
-    ghost use Rattle.passes.specs.PairStep.{under_here, side_by_record, side_here, row_here, least_here};
+    ghost use Rattle.passes.specs.PairStep.{under_here, product_here, side_by_record, side_here, row_here, least_here};
 
     /// Whether the node has values for an option: the option is free, and the node mentions it.
     fn is_open(&self, option: u16) -> bool
@@ -93,8 +92,8 @@ impl<K: Figure> Step<'_, '_, '_, K> {
     fn product_under(&self, option: Placed, children: &[u16]) -> Sides<K>
         requires place { option.place + 1 < self.now.values.stride }
         requires inside { list_all (has_part self.now.values) children.now ≡ true }
-        ensures on { result.on ≡ times K.ring (map (under_here K.ring self.now option.variable option.place) children.now) }
-        ensures off { result.off ≡ times K.ring (map (under_here K.ring self.now option.variable (option.place + 1)) children.now) }
+        ensures on { result.on ≡ product_here K.ring self.now option.variable option.place children.now }
+        ensures off { result.off ≡ product_here K.ring self.now option.variable (option.place + 1) children.now }
     {
         // A loop, as in `NodeValues::product`.
         let mut on = K::one();
@@ -188,7 +187,6 @@ fn lower<K: Figure>(least: Option<K>, figure: K) -> K
 }
 
 /// Lists the options by rising number: how many there are.
-// An array with a count, and not a list that grows: the engine has no heap.
 fn list_options(table: &Table, out: &mut [u16]) -> usize
     requires { length (roles table.now) ≤ length out.old }
     ensures listed { take result out.new ≡ options_of (roles table.now) }
@@ -212,7 +210,8 @@ impl<K: Figure> Query<'_, K> {
         requires node { node < length self.now.table.now.nodes.now }
         requires part { length part.old ≡ stride (roles self.now.table.now) }
         requires places { length places.now ≡ node * stride (roles self.now.table.now) }
-        ensures { part.new ≡ part_in K.ring (problem self.now) (stride (roles self.now.table.now)) places.now node options.now }
+        ensures { let wide = stride (roles self.now.table.now) in
+            part.new ≡ part_in K.ring (problem self.now) wide places.now node options.now }
     {
         let values = NodeValues {
             places,

@@ -18,7 +18,6 @@ pub struct Query<'a, K> {
     ghost fits: { 2 * length (roles table.now) ≤ length sheet.now },
 }
 
-// A work table is no part of a query: it is lent to one pass, which asks for its own room in it.
 impl<K: Figure> Query<'_, K> {
     ghost use Rattle.passes.specs.Problem.{problem};
     ghost use Rattle.passes.specs.Ways.{literal_of};

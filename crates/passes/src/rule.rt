@@ -35,7 +35,8 @@ impl<K: Figure> Query<'_, K> {
     fn node<W: Rule<K>>(&self, rule: &W, values: &NodeValues<K>, node: Node) -> K
         requires ranged { ranged_in self.now.table.now node ≡ true }
         requires readable { readable_in self.now.table.now values.now node ≡ true }
-        ensures { result ≡ made K.ring (W.way rule.now self.now) (value_among K.ring values.now) (shape_in self.now.table.now node) }
+        ensures { let values_of = value_among K.ring values.now in
+            result ≡ made K.ring (W.way rule.now self.now) values_of (shape_in self.now.table.now node) }
     {
         let children = self.table.children;
         let first = node.first as usize;
@@ -56,7 +57,8 @@ impl<K: Figure> Query<'_, K> {
     pub(crate) fn node_at<W: Rule<K>>(&self, rule: &W, values: &NodeValues<K>, number: usize) -> K
         requires node { number < length self.now.table.now.nodes.now }
         requires before { length values.now.places.now ≡ number * values.now.stride }
-        ensures { result ≡ made K.ring (W.way rule.now self.now) (value_among K.ring values.now) (node (circuit self.now.table.now) number) }
+        ensures { let values_of = value_among K.ring values.now in
+            result ≡ made K.ring (W.way rule.now self.now) values_of (node (circuit self.now.table.now) number) }
     {
         self.node(rule, values, self.table.nodes[number])
     }

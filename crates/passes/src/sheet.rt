@@ -7,8 +7,6 @@ use kinds::figure::Figure;
 /// How many figures the largest sheet has: two for each of 64 variables.
 pub const LARGEST_SHEET: usize = 128;
 
-// That a variable's number is above 0 stands in several contracts: files and calls give plain numbers,
-// and a type of its own would be made and opened at every use.
 /// Where a variable's on (or off) weight stands.
 pub(crate) fn place_of(variable: u16, on: bool) -> usize
     requires { 0 < variable }

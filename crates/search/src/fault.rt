@@ -1,8 +1,10 @@
 //! Why a call of a study, or a weight text, is refused.
+ghost use Rattle.std.specs.Prelude.{◌≡◌};
+ghost use Rattle.table.specs.declared.fault.Fault.TheVariants as table_fault;
 ghost use Rattle.search.specs.Faults.{fault_number, fault_place, fault_layer};
 
 use table::fault::Fault as TableFault;
-use text::fault::Layer;
+use text::fault::{Fault as TextFault, Layer};
 use text::refusal::Refusal;
 
 /// Why a call is refused: by a layer below, or for what it is given.
@@ -76,5 +78,25 @@ impl Refusal for Fault {
             | Fault::StillFree
             | Fault::ShortWork => Layer::Study,
         }
+    }
+}
+
+impl From<TableFault> for Fault {
+    ghost use Rattle.search.specs.declared.fault.Fault.TheVariants.{Table};
+
+    ghost from_gives = { λ f e. e ≡ Table f };
+
+    fn from(below: TableFault) -> Fault {
+        Fault::Table(below)
+    }
+}
+
+impl From<TextFault> for Fault {
+    ghost use Rattle.search.specs.declared.fault.Fault.TheVariants.{Table};
+
+    ghost from_gives = { λ f e. e ≡ Table (table_fault.Text f) };
+
+    fn from(fault: TextFault) -> Fault {
+        Fault::Table(TableFault::from(fault))
     }
 }

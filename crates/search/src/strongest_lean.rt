@@ -13,8 +13,6 @@ use kinds::order::lesser;
 #[derive(Clone, Copy)]
 pub struct StrongestLean;
 
-// That a choice's places stand in the part is a fact about both: a struct for the two would be made
-// for each choice.
 /// The lesser of an option's two values.
 fn weaker<K: Figure>(part: &[K], choice: Choice) -> K
     requires { placed (length part.now) choice ≡ true }

@@ -18,7 +18,6 @@ use passes::query::Query;
 use passes::sheet::Sheet;
 use table::table::Table;
 
-// Clause `known`: callers give a `u16`; a type for it would be made and opened at each call.
 /// The bound with a variable held on (or off); the holds are afterwards as before.
 fn bound_if_held<K: Figure>(
     table: &Table,

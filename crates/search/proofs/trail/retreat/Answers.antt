@@ -1,7 +1,7 @@
 use Rattle.std.proofs.Common.{◌≡◌, ◌+◌, ◌-◌, sym, ap, ◌∙◌, arith}
 use Rattle.search.specs.Walk.{back}
 use Rattle.search.proofs.Retreats.{back_on, back_off}
-use Rattle.search.proofs.explore.retreat.Goals as goal
+use Rattle.search.proofs.trail.retreat.Goals as goal
 
 pub returns-then-branch : goal.returns-then-branch
 returns-then-branch c =

@@ -14,8 +14,8 @@ use Rattle.table.proofs.Asked.{variables_long, variables_few}
 use Rattle.passes.proofs.Options.{option_there}
 use Rattle.search.specs.Listing.{root_mentions, choices_from}
 use Rattle.search.proofs.Listing.{one_listed, all_listed, options_filtered, options_few}
-use Rattle.search.proofs.choices.list_choices.Goals as goal
-use Rattle.search.proofs.choices.list_choices.Goals.{In-Some}
+use Rattle.search.proofs.choice.list_choices.Goals as goal
+use Rattle.search.proofs.choice.list_choices.Goals.{In-Some}
 use borrow.Author.Tests.{tests}
 
 -- the options that the loop goes over
