@@ -7,7 +7,6 @@ use crate::choice::Choice;
 use kinds::figure::Figure;
 
 /// An order names one of the free options that it is told of.
-// A trait, and no closure: its law is that it names one of them.
 pub trait BranchingOrder<K: Figure> {
     ghost picks: { Self → List (Lean K) → ℕ };
 

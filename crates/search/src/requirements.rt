@@ -56,8 +56,6 @@ pub(crate) fn require_chance(table: &Table, variable: u16) -> Result<(), Fault>
     Ok(())
 }
 
-// Two functions: one for both would take the entry that is refused and the refusal, and a call of it
-// would say no more than the two names.
 /// The option given must be free.
 pub(crate) fn require_free(holds: &Holds, variable: u16) -> Result<(), Fault>
     ensures { result ≡ passed (held_already holds.now.entries variable) }

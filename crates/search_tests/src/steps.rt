@@ -98,7 +98,7 @@ impl<K: Written> Study<'_, K> {
         let mut sheet = Sheet {
             figures: figures.as_mut_slice(),
         };
-        let answer = ask(table, order, holds, &mut sheet, work.as_mut_slice(), call);
+        let answer = ask(table, order, holds, &mut sheet, work.as_mut_slice(), &call);
         let after = self.show(heap)?;
         let shown = show_answer(answer, heap)?;
         assert_eq!(rt; shown.as_str(), due, "call {number}: {spoken}: {case}");
