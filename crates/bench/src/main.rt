@@ -8,7 +8,8 @@ mod measure;
 
 use asked::Asked;
 use kinds::figure::Figure;
-use kinds::value::{Peak, Tally};
+use kinds::peak::Peak;
+use kinds::tally::Tally;
 use kinds::written::Written;
 use measure::{holds_of, repeat_bound, repeat_check, repeat_select};
 use parts::read::MOST_READ;

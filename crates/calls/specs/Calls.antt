@@ -1,12 +1,14 @@
 -- What the program prints.
-use Rattle.std.specs.Prelude.{ℕ, ◌+◌, List, [], ◌∷◌, length, drop, Some, None, Ok, Err, codes, decimal, Option}
+use Rattle.std.specs.Prelude.{◌≡◌, ℕ, ◌+◌, List, [], ◌∷◌, length, drop, Some, None, Ok, Err, IfOk, codes, decimal, string_bytes, Option, Result, String}
+use Rattle.std.specs.declared.alloc.AllocError.{AllocError}
+use Rattle.std.specs.declared.alloc.Global.{Global}
 use Rattle.kinds.specs.Semiring.{Semiring}
-use Rattle.kinds.specs.Tallies.{tallies}
-use Rattle.kinds.specs.Peaks.{peaks}
-use Rattle.kinds.specs.Texts.{tally_reading, tally_text, peak_reading, peak_text}
+use Rattle.kinds.specs.Texts.{Notation}
+use Rattle.kinds.specs.Tallies.{tallies, tally_notation}
+use Rattle.kinds.specs.Peaks.{peaks, peak_notation}
 use Rattle.search.specs.Orders.{Order as Picks, lowest, strongest}
 use Rattle.text.specs.Lines.{lines}
-use Rattle.text.specs.Printed.{Lines}
+use Rattle.text.specs.Printed.{Lines, text_of}
 use Rattle.report.specs.Answers.{day_report}
 use Rattle.calls.specs.Script.{Read, setup_says, calls_say}
 use Rattle.calls.specs.declared.setup.Kind.{Kind}
@@ -15,27 +17,31 @@ use Rattle.calls.specs.declared.setup.Order.{Order}
 use Rattle.calls.specs.declared.setup.Order.TheVariants.{Number, Lean}
 use Rattle.calls.specs.declared.setup.Setup.{Setup}
 
+-- the text that is answered is these lines; without memory nothing is said
+abbrev pub Prints : Lines → Result (String Global) AllocError → Type 0
+Prints ls answer = IfOk answer (λ s. string_bytes s ≡ text_of ls)
+
 -- E and the number of the line that has not its form
 abbrev pub malformed : ℕ → List (List ℕ)
 malformed line = codes "E" ∷ decimal line ∷ []
 
 -- for a kind, an order, and a sheet and a work table of so many figures
-module _ {F : Type 0} (R : Semiring F) (text : F → List ℕ) (pick : Picks F) (reading : List ℕ → Option F) (sheet-size work-size : ℕ) where
+module _ {F : Type 0} (R : Semiring F) (N : Notation F) (pick : Picks F) (sheet-size work-size : ℕ) where
   -- for what was read
   abbrev pub script_report : Read F → Lines
-  script_report (Ok said) = day_report R text pick reading sheet-size work-size said.0 said.1
+  script_report (Ok said) = day_report R N pick sheet-size work-size said.0 said.1
   script_report (Err line) = malformed line ∷ []
 
   -- for the text behind the first line
   abbrev pub calls_report : List ℕ → Lines
-  calls_report bytes = script_report (calls_say reading bytes)
+  calls_report bytes = script_report (calls_say N bytes)
 
 -- by the kind and the order
 abbrev pub by_setup : Kind → Order → (sheet-size work-size : ℕ) → List ℕ → Lines
-by_setup Tally Number s w = calls_report tallies tally_text lowest tally_reading s w
-by_setup Tally Lean s w = calls_report tallies tally_text (strongest tallies) tally_reading s w
-by_setup Peak Number s w = calls_report peaks peak_text lowest peak_reading s w
-by_setup Peak Lean s w = calls_report peaks peak_text (strongest peaks) peak_reading s w
+by_setup Tally Number s w = calls_report tallies tally_notation lowest s w
+by_setup Tally Lean s w = calls_report tallies tally_notation (strongest tallies) s w
+by_setup Peak Number s w = calls_report peaks peak_notation lowest s w
+by_setup Peak Lean s w = calls_report peaks peak_notation (strongest peaks) s w
 
 -- for what the first line says, and the text behind it
 abbrev pub set_up : Option Setup → List ℕ → Lines

@@ -2,9 +2,11 @@
 --
 -- A script is a list of lines, a line a list of fields: the first line sets a study up, each other makes a call. Behind
 -- the script stands a file.
-use Rattle.std.specs.Prelude.{ℕ, ◌+◌, Bool, true, false, ◌&&◌, List, [], ◌∷◌, ◌++◌, length, drop, Some, None, Ok, Err, codes, Option, Result, ◌==◌, if◌then◌else◌}
+use Rattle.std.specs.Prelude.{ℕ, ◌+◌, ◌*◌, Bool, true, false, ◌&&◌, List, [], ◌∷◌, ◌++◌, length, drop, Some, None, Ok, Err, codes, Option, Result, ◌==◌, if◌then◌else◌}
 use Rattle.std.specs.Option.{option_map}
+use Rattle.std.specs.Result.{result_ok}
 use Rattle.std.specs.Str.{bytes_eq}
+use Rattle.kinds.specs.Texts.{Notation, figure_at}
 use Rattle.text.specs.Lines.{lines, fields}
 use Rattle.text.specs.Numerals.{number}
 use Rattle.search.specs.Weights.{field_at}
@@ -50,18 +52,19 @@ is_call word count l = bytes_eq (field_at 1 l) word && length (fields l) == coun
 abbrev pub sided : List ℕ → Option (ℕ × Bool)
 sided l = option_then (number (field_at 2 l)) (λ v. option_then (side_of (field_at 3 l)) (λ s. Some (v, s)))
 
--- figures are read by `reading`
-module _ {F : Type 0} (reading : List ℕ → Option F) where
+module _ {F : Type 0} (N : Notation F) where
   -- the number of a chance and its two weights
   abbrev pub weigh_says : List ℕ → Option (Call F)
-  weigh_says l = option_then (number (field_at 2 l)) (λ v. option_then (reading (field_at 3 l)) (λ x. option_then (reading (field_at 4 l)) (λ y. Some (Weigh v x y))))
+  weigh_says l =
+      option_then (number (field_at 2 l)) (λ v. option_then (result_ok (figure_at N 3 l)) (λ x. option_then (result_ok (figure_at N (3 + N.fields) l)) (λ y.
+      Some (Weigh v x y))))
 
   -- behind its first field, which is C
   abbrev pub call_says : List ℕ → Option (Call F)
   call_says l =
       if is_call (codes "hold") 4 l then option_map (λ p. Hold p.0 p.1) (sided l)
       else (if is_call (codes "release") 3 l then option_map Release (number (field_at 2 l))
-      else (if is_call (codes "weigh") 5 l then weigh_says l
+      else (if is_call (codes "weigh") (3 + 2 * N.fields) l then weigh_says l
       else (if is_call (codes "trial") 4 l then option_map (λ p. Trial p.0 p.1) (sided l)
       else (if is_call (codes "figure") 2 l then Some Figure
       else (if is_call (codes "bound") 2 l then Some Bound
@@ -79,13 +82,13 @@ begins_call (a ∷ b ∷ bs) = a == 67 && b == 9
 abbrev pub Read : Type 0 → Type 0
 Read F = Result (List (Call F) × List ℕ) ℕ
 
-module _ {F : Type 0} (reading : List ℕ → Option F) where
+module _ {F : Type 0} (N : Notation F) where
   -- a text and its lines, behind these calls, of which the first stands in line 2
   unfoldable pub read_on : List (Call F) → List ℕ → List (List ℕ) → Read F
   read_on before text [] = if begins_call text then Err (length before + 2) else (Ok (before, text))
   read_on before text (l ∷ ls) =
       if begins_call text
-      then (elim (call_says reading l) [ None ↦ Err (length before + 2) | Some c ↦ read_on (before ++ c ∷ []) (drop (length l + 1) text) ls ])
+      then (elim (call_says N l) [ None ↦ Err (length before + 2) | Some c ↦ read_on (before ++ c ∷ []) (drop (length l + 1) text) ls ])
       else (Ok (before, text))
 
   -- the text behind the first line

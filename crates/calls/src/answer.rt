@@ -1,13 +1,12 @@
 //! What the program prints.
-ghost use Rattle.std.specs.Prelude.{◌≡◌, IfOk, string_bytes};
-ghost use Rattle.text.specs.Printed.{text_of};
-ghost use Rattle.calls.specs.Calls.{calls_report, calls as calls_of};
+ghost use Rattle.calls.specs.Calls.{calls_report, calls as calls_of, Prints};
 
 use crate::lines::setup_line;
 use crate::read::read_calls;
 use crate::script::Malformed;
 use crate::setup::{Kind, Order, Setup};
-use kinds::value::{Peak, Tally};
+use kinds::peak::Peak;
+use kinds::tally::Tally;
 use kinds::written::Written;
 use report::day::{Sizes, day_report};
 use search::number_order::NumberOrder;
@@ -19,7 +18,7 @@ use text::fields::first_line;
 /// What is printed for a script, with a file behind it: the answer to each call, or the first
 /// line that has not its form, or the first refusal.
 pub fn calls(heap: Global, input: &[u8]) -> Result<String, AllocError>
-    ensures { IfOk result (λ s. string_bytes s ≡ text_of (calls_of input.now)) }
+    ensures { Prints (calls_of input.now) result }
 {
     let malformed = Malformed { line: 1 };
     let Some(line) = first_line(input) else {
@@ -59,7 +58,7 @@ fn set_up<K: Written, O: BranchingOrder<K>>(
     setup: Setup,
     text: &[u8],
 ) -> Result<String, AllocError>
-    ensures { IfOk result (λ s. string_bytes s ≡ text_of (calls_report K.ring K.text (O.picks order.now) K.reading setup.sheet setup.work text.now)) }
+    ensures { Prints (calls_report K.ring K.notation (O.picks order.now) setup.sheet setup.work text.now) result }
 {
     let sizes = Sizes {
         sheet: usize::from(setup.sheet),

@@ -3,6 +3,7 @@ ghost use Rattle.std.specs.Prelude.{◌≡◌};
 ghost use Rattle.calls.specs.Script.{kind_of, order_of, side_of, setup_says, is_call, sided, weigh_says, call_says};
 
 use crate::setup::{Kind, Order, Setup};
+use kinds::line::figure_at;
 use kinds::written::Written;
 use search::call::Call;
 use text::fields::{field, field_count};
@@ -72,13 +73,13 @@ fn is_call(line: &[u8], word: &[u8], count: usize) -> bool
 
 /// The call that a line makes, if it has the form.
 pub fn call_line<K: Written>(line: &[u8]) -> Option<Call<K>>
-    ensures { result ≡ call_says K.reading line.now }
+    ensures { result ≡ call_says K.notation line.now }
 {
     if is_call(line, b"hold", 4) {
         sided(line).map(|(variable, on)| Call::Hold { variable, on })
     } else if is_call(line, b"release", 3) {
         read_number(field(line, 2)).map(|variable| Call::Release { variable })
-    } else if is_call(line, b"weigh", 5) {
+    } else if is_call(line, b"weigh", 3 + 2 * usize::from(K::FIELDS)) {
         weigh(line)
     } else if is_call(line, b"trial", 4) {
         sided(line).map(|(variable, on)| Call::Trial { variable, on })
@@ -104,10 +105,10 @@ fn sided(line: &[u8]) -> Option<(u16, bool)>
 
 /// The number of a chance and its two weights.
 fn weigh<K: Written>(line: &[u8]) -> Option<Call<K>>
-    ensures { result ≡ weigh_says K.reading line.now }
+    ensures { result ≡ weigh_says K.notation line.now }
 {
     let variable = read_number(field(line, 2))?;
-    let on = K::read(field(line, 3))?;
-    let off = K::read(field(line, 4))?;
+    let on = figure_at(line, 3).ok()?;
+    let off = figure_at(line, 3 + usize::from(K::FIELDS)).ok()?;
     Some(Call::Weigh { variable, on, off })
 }

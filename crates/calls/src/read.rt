@@ -21,7 +21,7 @@ pub fn read_calls<'a, K: Written>(
     heap: Global,
     text: &'a [u8],
 ) -> Result<Result<Script<'a, K>, Malformed>, AllocError>
-    ensures { IfOk result (λ answer. Reads (calls_say K.reading text.now) answer) }
+    ensures { IfOk result (λ answer. Reads (calls_say K.notation text.now) answer) }
 {
     let mut calls = Vec::new(heap);
     let mut rest = text;

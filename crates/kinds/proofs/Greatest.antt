@@ -3,11 +3,12 @@ use Rattle.std.proofs.Common.{◌≡◌, refl, arith}
 use Rattle.std.specs.Ordering.{ord_max, nat_cmp, is_lt}
 use Rattle.std.proofs.lemmas.Bool.{cond_both}
 use Rattle.std.proofs.lemmas.Bool.Decides.{nat_tests}
-use Rattle.kinds.specs.Peaks.{peak_sum, same_peak}
-use Rattle.kinds.specs.declared.value.Peak.{Peak}
-use Rattle.kinds.specs.declared.value.Peak.TheVariants as peak
-use Rattle.kinds.specs.declared.value.Peak.TheVariants.{Impossible}
-use Rattle.kinds.specs.contracts.value.PeakOrd.TheImpl.{cmp-value}
+use Rattle.kinds.specs.Peaks.{peak_sum}
+use Rattle.kinds.specs.PeakLaws.{same_peak}
+use Rattle.kinds.specs.declared.peak.Peak.{Peak}
+use Rattle.kinds.specs.declared.peak.Peak.TheVariants as peak
+use Rattle.kinds.specs.declared.peak.Peak.TheVariants.{Impossible}
+use Rattle.kinds.specs.contracts.peak.PeakOrd.TheImpl.{cmp-value}
 
 -- the derived order has the greater load, or any load over none
 pub max_sum : (a b : Peak) → ord_max cmp-value.it a b ≡ peak_sum a b

@@ -1,16 +1,15 @@
 -- The kind Peak: the highest load of any way.
-use Rattle.std.specs.Prelude.{◌≡◌, ℕ, ◌+◌, ◌≤◌, min, max, Bool, true, false, ◌⊎◌, nat_le, refl}
-use Rattle.std.proofs.Common.{ap, inl, inr, arith}
-use mathlib.Core.HLevel.{is_prop→PathP}
+use Rattle.std.specs.Prelude.{ℕ, ◌+◌, ◌≤◌, min, max, Bool, true, false, List, Ok, codes, decimal, nat_le, if◌then◌else◌}
+use Rattle.std.proofs.Common.{arith}
 use Rattle.std.proofs.Math.Nat.{min-le_right}
-use Rattle.std.proofs.Math.Bridge.{le_prop}
-use Rattle.std.proofs.lemmas.Bool.{leb-true, le-leb, false≢true}
-use Rattle.kinds.specs.Semiring.{Semiring, Laws}
-use Rattle.kinds.specs.Saturate.{leb_total}
-use Rattle.kinds.specs.declared.value.Load.{Load}
-use Rattle.kinds.specs.declared.value.Peak.{Peak}
-use Rattle.kinds.specs.declared.value.Peak.TheVariants as peak
-use Rattle.kinds.specs.declared.value.Peak.TheVariants.{Impossible}
+use Rattle.std.specs.Str.{bytes_eq}
+use Rattle.text.specs.Format.{Said}
+use Rattle.kinds.specs.Semiring.{Semiring}
+use Rattle.kinds.specs.Texts.{Notation, number_reading}
+use Rattle.kinds.specs.declared.peak.Load.{Load}
+use Rattle.kinds.specs.declared.peak.Peak.{Peak}
+use Rattle.kinds.specs.declared.peak.Peak.TheVariants as peak
+use Rattle.kinds.specs.declared.peak.Peak.TheVariants.{Impossible}
 
 -- a load of n watts, or the cap if n is above it
 abbrev pub load : ℕ → Load
@@ -44,87 +43,17 @@ peak_upto (peak.Load a) (peak.Load b) = nat_le a.watts b.watts
 abbrev pub peaks : Semiring Peak
 peaks = record { zero = Impossible; one = peak.Load (load 0); sum = peak_sum; product = peak_product; upto = peak_upto }
 
-pub same_watts : (a b : Load) → a.watts ≡ b.watts → a ≡ b
-same_watts a b p = λ i. record { watts = p i; fits = is_prop→PathP (λ j. p j ≤ 4294967295) (λ _. le_prop) a.fits b.fits i }
+-- a load's text is a number of at most 10 digits, up to the cap
+abbrev pub load_reading : List ℕ → Said Peak
+load_reading s = number_reading (λ n. peak.Load (load n)) 10 4294967295 s
 
-pub same_peak : (a b : Load) → a.watts ≡ b.watts → ◌≡◌ {A = Peak} (peak.Load a) (peak.Load b)
-same_peak a b p = ap peak.Load (same_watts a b p)
+-- a peak's text is `-`, or a load's
+abbrev pub peak_reading : List ℕ → Said Peak
+peak_reading s = if bytes_eq s (codes "-") then Ok Impossible else load_reading s
 
-sum_assoc : (a b c : Peak) → peak_sum (peak_sum a b) c ≡ peak_sum a (peak_sum b c)
-sum_assoc Impossible b c = refl
-sum_assoc (peak.Load a) Impossible c = refl
-sum_assoc (peak.Load a) (peak.Load b) Impossible = refl
-sum_assoc (peak.Load a) (peak.Load b) (peak.Load c) = same_peak _ _ (omega arith)
+abbrev pub peak_text : Peak → List ℕ
+peak_text Impossible = codes "-"
+peak_text (peak.Load a) = decimal a.watts
 
-sum_comm : (a b : Peak) → peak_sum a b ≡ peak_sum b a
-sum_comm Impossible Impossible = refl
-sum_comm Impossible (peak.Load b) = refl
-sum_comm (peak.Load a) Impossible = refl
-sum_comm (peak.Load a) (peak.Load b) = same_peak _ _ (omega arith)
-
-product_assoc : (a b c : Peak) → peak_product (peak_product a b) c ≡ peak_product a (peak_product b c)
-product_assoc Impossible b c = refl
-product_assoc (peak.Load a) Impossible c = refl
-product_assoc (peak.Load a) (peak.Load b) Impossible = refl
-product_assoc (peak.Load a) (peak.Load b) (peak.Load c) = same_peak _ _ (omega arith)
-
-product_comm : (a b : Peak) → peak_product a b ≡ peak_product b a
-product_comm Impossible Impossible = refl
-product_comm Impossible (peak.Load b) = refl
-product_comm (peak.Load a) Impossible = refl
-product_comm (peak.Load a) (peak.Load b) = same_peak _ _ (omega arith)
-
-distributes : (a b c : Peak) → peak_product a (peak_sum b c) ≡ peak_sum (peak_product a b) (peak_product a c)
-distributes Impossible b c = refl
-distributes (peak.Load a) Impossible c = refl
-distributes (peak.Load a) (peak.Load b) Impossible = refl
-distributes (peak.Load a) (peak.Load b) (peak.Load c) = same_peak _ _ (omega arith)
-
-one_product : (a : Peak) → peak_product (peak.Load (load 0)) a ≡ a
-one_product Impossible = refl
-one_product (peak.Load a) = same_peak _ _ (omega (arith, a.fits))
-
-total : (a b : Peak) → (peak_upto a b ≡ true) ⊎ (peak_upto b a ≡ true)
-total Impossible b = inl refl
-total (peak.Load a) Impossible = inr refl
-total (peak.Load a) (peak.Load b) = leb_total a.watts b.watts
-
-trans : (a b c : Peak) → peak_upto a b ≡ true → peak_upto b c ≡ true → peak_upto a c ≡ true
-trans Impossible b c p q = refl
-trans (peak.Load a) Impossible c p q = absurd (false≢true p)
-trans (peak.Load a) (peak.Load b) Impossible p q = absurd (false≢true q)
-trans (peak.Load a) (peak.Load b) (peak.Load c) p q = le-leb a.watts c.watts (omega (arith, leb-true a.watts b.watts p, leb-true b.watts c.watts q))
-
-sum_above : (b c : Peak) → peak_upto c (peak_sum b c) ≡ true
-sum_above b Impossible = refl
-sum_above Impossible (peak.Load c) = le-leb c.watts _ (omega arith)
-sum_above (peak.Load b) (peak.Load c) = le-leb c.watts _ (omega arith)
-
-sum_mono : (a b c : Peak) → peak_upto a b ≡ true → peak_upto (peak_sum a c) (peak_sum b c) ≡ true
-sum_mono Impossible b c p = sum_above b c
-sum_mono (peak.Load a) Impossible c p = absurd (false≢true p)
-sum_mono (peak.Load a) (peak.Load b) Impossible p = p
-sum_mono (peak.Load a) (peak.Load b) (peak.Load c) p = le-leb _ _ (omega (arith, leb-true a.watts b.watts p))
-
-product_mono : (a b c : Peak) → peak_upto a b ≡ true → peak_upto (peak_product a c) (peak_product b c) ≡ true
-product_mono Impossible b c p = refl
-product_mono (peak.Load a) Impossible c p = absurd (false≢true p)
-product_mono (peak.Load a) (peak.Load b) Impossible p = refl
-product_mono (peak.Load a) (peak.Load b) (peak.Load c) p = le-leb _ _ (omega (arith, leb-true a.watts b.watts p))
-
-pub peak_laws : Laws peaks
-peak_laws = record {
-  sum_assoc = sum_assoc;
-  sum_comm = sum_comm;
-  product_assoc = product_assoc;
-  product_comm = product_comm;
-  distributes = distributes;
-  zero_sum = λ a. refl;
-  one_product = one_product;
-  zero_product = λ a. refl;
-  total = total;
-  trans = trans;
-  zero_least = λ a. refl;
-  sum_mono = sum_mono;
-  product_mono = product_mono;
-}
+abbrev pub peak_notation : Notation Peak
+peak_notation = record { fields = 1; reading = peak_reading; text = peak_text }

@@ -1,13 +1,9 @@
 -- The kind Tally: counts of ways.
-use Rattle.std.specs.Prelude.{◌≡◌, ℕ, ◌+◌, ◌*◌, ◌≤◌, min, nat_le}
-use Rattle.std.proofs.Common.{ap, mul_comm, arith}
-use mathlib.Core.HLevel.{is_prop→PathP}
+use Rattle.std.specs.Prelude.{ℕ, ◌+◌, ◌*◌, min, decimal, nat_le}
 use Rattle.std.proofs.Math.Nat.{min-le_right}
-use Rattle.std.proofs.Math.Bridge.{le_prop}
-use Rattle.std.proofs.lemmas.Bool.{leb-true, le-leb}
-use Rattle.kinds.specs.Semiring.{Semiring, Laws}
-use Rattle.kinds.specs.Saturate.{capped_assoc, capped_distributes, capped_mono, leb_total}
-use Rattle.kinds.specs.declared.value.Tally.{Tally}
+use Rattle.kinds.specs.Semiring.{Semiring}
+use Rattle.kinds.specs.Texts.{Notation, number_reading}
+use Rattle.kinds.specs.declared.tally.Tally.{Tally}
 
 -- the count n, or the cap if n is above it
 abbrev pub tally : ℕ → Tally
@@ -23,22 +19,10 @@ tallies = record {
   upto = λ a b. nat_le a.count b.count;
 }
 
-pub same_count : (a b : Tally) → a.count ≡ b.count → a ≡ b
-same_count a b p = λ i. record { count = p i; fits = is_prop→PathP (λ j. p j ≤ 18446744073709551615) (λ _. le_prop) a.fits b.fits i }
-
-pub tally_laws : Laws tallies
-tally_laws = record {
-  sum_assoc = λ a b c. same_count _ _ (omega arith);
-  sum_comm = λ a b. same_count _ _ (omega arith);
-  product_assoc = λ a b c. same_count _ _ (capped_assoc _ a.count b.count c.count);
-  product_comm = λ a b. ap tally (mul_comm a.count b.count);
-  distributes = λ a b c. same_count _ _ (capped_distributes _ a.count b.count c.count);
-  zero_sum = λ a. same_count _ _ (omega (arith, a.fits));
-  one_product = λ a. same_count _ _ (omega (arith, a.fits));
-  zero_product = λ a. same_count _ _ (omega arith);
-  total = λ a b. leb_total a.count b.count;
-  trans = λ a b c p q. le-leb _ _ (omega (arith, leb-true _ _ p, leb-true _ _ q));
-  zero_least = λ a. le-leb _ _ (omega arith);
-  sum_mono = λ a b c p. le-leb _ _ (omega (arith, leb-true _ _ p));
-  product_mono = λ a b c p. le-leb _ _ (capped_mono _ a.count b.count c.count (leb-true _ _ p));
+-- a tally's text is a number of at most 20 digits, up to the cap
+abbrev pub tally_notation : Notation Tally
+tally_notation = record {
+  fields = 1;
+  reading = number_reading tally 20 18446744073709551615;
+  text = λ t. decimal t.count;
 }

@@ -3,8 +3,7 @@
 #![tactic(auto)]
 
 pub mod figure;
-pub mod order;
+pub mod line;
 pub mod peak;
 pub mod tally;
-pub mod value;
 pub mod written;

@@ -7,8 +7,7 @@ ghost use Rattle.passes.specs.Written.{plains_left};
 
 use crate::query::Query;
 use crate::rule::Rule;
-use kinds::figure::Figure;
-use kinds::order::greater;
+use kinds::figure::{Figure, greater};
 
 /// A chance's literal counts its weight; an option's zero if a hold contradicts it, else one. A fork
 /// on an option takes the greater of its branches.

@@ -1,6 +1,7 @@
 //! Figures and bounds worked out by hand.
 use crate::asking::{ask, holds_of, read};
-use kinds::value::{Load, Peak, Tally};
+use kinds::peak::{Load, Peak};
+use kinds::tally::Tally;
 use plants::files::{PLANT, file};
 use plants::stores::Stores;
 use std::alloc::Global;

@@ -1,7 +1,7 @@
 //! The answers against all worlds, one by one.
 use crate::asking::{ask, read};
 use crate::figures::{Due, MARK, check_tallies, tallies};
-use kinds::value::Tally;
+use kinds::tally::Tally;
 use passes::holds::{Entry, Holds};
 use plants::files::{BLOCK_ROLES, BLOCKS, file};
 use plants::stores::Stores;

@@ -3,7 +3,7 @@ ghost use Rattle.std.specs.Prelude.{◌≡◌, IfOk, string_bytes};
 ghost use Rattle.text.specs.Printed.{text_of};
 ghost use Rattle.quote.specs.Quote.{quote as quote_of};
 
-use kinds::value::Tally;
+use kinds::tally::Tally;
 use report::plant::plant_report;
 use search::number_order::NumberOrder;
 use std::alloc::{AllocError, Global};

@@ -1,6 +1,7 @@
 -- Lemmas on the printed lines.
 use Rattle.std.proofs.Common.{◌≡◌, ℕ, ◌+◌, Bool, true, false, cond, ◌&&◌, List, [], ◌∷◌, ◌++◌, IfOk, Some, codes, decimal, Result, sym, refl, ap, ◌∙◌, append_assoc}
 use Rattle.std.proofs.lemmas.Result.{IfOk-weaker}
+use Rattle.kinds.specs.Texts.{Notation}
 use Rattle.text.specs.Format.{is_option_role, spelled}
 use Rattle.text.specs.Printed.{fields_onto, text_of, PlainNames}
 use Rattle.text.specs.declared.record.Variable.{Variable}
@@ -36,18 +37,18 @@ tabs_ended (f ∷ fs) = ap (λ l. 9 ∷ l) (append_assoc f (behind_tabs fs) (10 
 
 -- A text that was made of parts, under what is known of the parts.
 
-module _ {X Y F : Type 0} (bytes : X → List ℕ) (text : F → List ℕ) (r : Result X Y) (vs : List Variable) (found : Found F) where
-  pub selection_printed : (s : Selection F) (figure names : List ℕ) → found.best ≡ Some s → figure ≡ text s.figure → (PlainNames vs → names ≡ behind_tabs (names_on s.holds.entries 1 vs)) → IfOk r (λ x. bytes x ≡ codes "S" ++ 9 ∷ (figure ++ 9 ∷ (decimal found.openings ++ (names ++ 10 ∷ [])))) → IfOk r (λ x. PlainNames vs → bytes x ≡ text_of (selection_line text vs found ∷ []))
+module _ {X Y F : Type 0} (bytes : X → List ℕ) (N : Notation F) (r : Result X Y) (vs : List Variable) (found : Found F) where
+  pub selection_printed : (s : Selection F) (figure names : List ℕ) → found.best ≡ Some s → figure ≡ N.text s.figure → (PlainNames vs → names ≡ behind_tabs (names_on s.holds.entries 1 vs)) → IfOk r (λ x. bytes x ≡ codes "S" ++ 9 ∷ (figure ++ 9 ∷ (decimal found.openings ++ (names ++ 10 ∷ [])))) → IfOk r (λ x. PlainNames vs → bytes x ≡ text_of (selection_line N vs found ∷ []))
   selection_printed s figure names best ef en printed =
       IfOk-weaker r _ _ (λ x e plain.
       e
-      ∙ ap (λ l. codes "S" ++ 9 ∷ (l ++ 9 ∷ (decimal found.openings ++ (names ++ 10 ∷ [])))) (ef ∙ ap (best_text text) (sym best))
-      ∙ ap (λ l. codes "S" ++ 9 ∷ (best_text text found.best ++ 9 ∷ (decimal found.openings ++ l)))
+      ∙ ap (λ l. codes "S" ++ 9 ∷ (l ++ 9 ∷ (decimal found.openings ++ (names ++ 10 ∷ [])))) (ef ∙ ap (best_text N) (sym best))
+      ∙ ap (λ l. codes "S" ++ 9 ∷ (best_text N found.best ++ 9 ∷ (decimal found.openings ++ l)))
       (ap (λ l. l ++ 10 ∷ []) (en plain) ∙ tabs_ended (names_on s.holds.entries 1 vs) ∙ ap (λ o. fields_onto (best_names vs o) []) (sym best))) printed
 
-  pub report_printed : (f : F) (bound best : List ℕ) → bound ≡ text f → (PlainNames vs → best ≡ text_of (selection_line text vs found ∷ [])) → IfOk r (λ x. bytes x ≡ codes "B\t" ++ (bound ++ (codes "\n" ++ best))) → IfOk r (λ x. PlainNames vs → bytes x ≡ text_of (report_of text vs f found))
+  pub report_printed : (f : F) (bound best : List ℕ) → bound ≡ N.text f → (PlainNames vs → best ≡ text_of (selection_line N vs found ∷ [])) → IfOk r (λ x. bytes x ≡ codes "B\t" ++ (bound ++ (codes "\n" ++ best))) → IfOk r (λ x. PlainNames vs → bytes x ≡ text_of (report_of N vs f found))
   report_printed f bound best eb es printed =
       IfOk-weaker r _ _ (λ x e plain.
       e
       ∙ ap (λ l. codes "B\t" ++ (l ++ (codes "\n" ++ best))) eb
-      ∙ ap (λ l. codes "B\t" ++ (text f ++ (codes "\n" ++ l))) (es plain)) printed
+      ∙ ap (λ l. codes "B\t" ++ (N.text f ++ (codes "\n" ++ l))) (es plain)) printed

@@ -3,6 +3,7 @@ use Rattle.std.proofs.Common.{◌≡◌, ℕ, List, [], ◌∷◌, length, drop,
 use Rattle.std.specs.Result.{IsErr, IsErrAnd}
 use Rattle.std.specs.declared.alloc.Global.{Global}
 use Rattle.kinds.specs.Semiring.{Semiring}
+use Rattle.kinds.specs.Texts.{Notation}
 use Rattle.text.specs.Format.{listed}
 use Rattle.text.specs.Printed.{Lines, text_of}
 use Rattle.text.specs.declared.record.Contents.{Contents}
@@ -61,7 +62,7 @@ module _ {A B : Type 0} (a : A) (b : B) where
   accepted_alike None x e = (cc, refl)
   accepted_alike (Some g) x e = absurd (let z : ◌≡◌ {A = ℕ} 0 1 = cc in omega arith)
 
-module _ {F : Type 0} (R : Semiring F) (text : F → List ℕ) (pick : Order F) (vs : Variables) (ss : List Shape) where
+module _ {F : Type 0} (R : Semiring F) (N : Notation F) (pick : Order F) (vs : Variables) (ss : List Shape) where
   -- bound and select, with holds that are none
 
   module _ (size : ℕ) (sheet : List F) (h : Entries) (new : h ≡ unheld) where
@@ -75,33 +76,33 @@ module _ {F : Type 0} (R : Semiring F) (text : F → List ℕ) (pick : Order F) 
     found_of e = select R pick (roles_of vs) ss sheet e
 
     abbrev lines : Unit {0} → Lines
-    lines _ = report_of text (listed vs) (bound_of unheld) (found_of unheld)
+    lines _ = report_of N (listed vs) (bound_of unheld) (found_of unheld)
 
     at_room : {A : Type 0} (x : A) (n : ℕ) → n ≡ size → answered (tests n h) x ≡ answered (tests size unheld) x
     at_room x n same = ap₂ (λ k e. answered (tests k e) x) same new
 
-    pub unanswered : {A : Type 0} (x : A) (n : ℕ) → n ≡ size → (f : Fault) → Err f ≡ answered (tests n h) x → study_report R text pick size vs ss sheet ≡ refusal f ∷ []
+    pub unanswered : {A : Type 0} (x : A) (n : ℕ) → n ≡ size → (f : Fault) → Err f ≡ answered (tests n h) x → study_report R N pick size vs ss sheet ≡ refusal f ∷ []
     unanswered x n same f is =
         stopped (λ e. e) (answered (tests size unheld) (tt {0})) lines f (refused_alike x (tt {0}) (first_fit (tests size unheld)) f (is ∙ at_room x n same))
 
     pub selected : (n : ℕ) → n ≡ size → (most : F) → Ok most ≡ answered (tests n h) (bound_of h)
-        → (k : ℕ) → k ≡ size → (found : Found F) → Ok found ≡ answered (tests k h) (found_of h) → study_report R text pick size vs ss sheet ≡ report_of text (listed vs) most found
+        → (k : ℕ) → k ≡ size → (found : Found F) → Ok found ≡ answered (tests k h) (found_of h) → study_report R N pick size vs ss sheet ≡ report_of N (listed vs) most found
     selected n same most is k kept found got =
         let b = accepted_alike (bound_of h) (tt {0}) (first_fit (tests size unheld)) most (is ∙ at_room (bound_of h) n same) in
         let s = accepted_alike (found_of h) (tt {0}) (first_fit (tests size unheld)) found (got ∙ at_room (found_of h) k kept) in
         passed (λ e. e) (answered (tests size unheld) (tt {0})) lines (tt {0}) b.1
-        ∙ sym (ap₂ (report_of text (listed vs)) (b.0 ∙ ap bound_of new) (s.0 ∙ ap found_of new))
+        ∙ sym (ap₂ (report_of N (listed vs)) (b.0 ∙ ap bound_of new) (s.0 ∙ ap found_of new))
 
 -- the weight text, read into a sheet of so many zeros
 
-module _ {F : Type 0} (R : Semiring F) (reading : List ℕ → Option F) (vs : Variables) (zeros start : List F) (blank : start ≡ zeros) (weights : List ℕ) (next : List F → Lines) where
+module _ {F : Type 0} (R : Semiring F) (N : Notation F) (vs : Variables) (zeros start : List F) (blank : start ≡ zeros) (weights : List ℕ) (next : List F → Lines) where
   abbrev read_into : List F → WeightReading F
-  read_into sheet = weights_say reading (roles_of vs) R.one sheet weights
+  read_into sheet = weights_say R N (roles_of vs) sheet weights
 
-  pub unread : (f : Fault) → Err f ≡ (read_into start).answer → unless_weights_refused R reading vs zeros weights next ≡ refusal f ∷ []
+  pub unread : (f : Fault) → Err f ≡ (read_into start).answer → unless_weights_refused R N vs zeros weights next ≡ refusal f ∷ []
   unread f is = stopped (λ e. e) (read_into zeros).answer (λ _. next (read_into zeros).sheet) f (is ∙ ap (λ s. (read_into s).answer) blank)
 
-  pub read : Ok tt ≡ (read_into start).answer → (sheet : List F) → sheet ≡ (read_into start).sheet → unless_weights_refused R reading vs zeros weights next ≡ next sheet
+  pub read : Ok tt ≡ (read_into start).answer → (sheet : List F) → sheet ≡ (read_into start).sheet → unless_weights_refused R N vs zeros weights next ≡ next sheet
   read is sheet left =
       passed (λ e. e) (read_into zeros).answer (λ _. next (read_into zeros).sheet) tt (is ∙ ap (λ s. (read_into s).answer) blank)
       ∙ ap next (sym (left ∙ ap (λ s. (read_into s).sheet) blank))

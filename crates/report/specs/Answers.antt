@@ -1,6 +1,7 @@
 -- The text that a program prints for a list of calls on a plant.
-use Rattle.std.specs.Prelude.{◌≡◌, ℕ, List, [], ◌∷◌, map, drop, replicate, Ok, Err, codes, Option}
+use Rattle.std.specs.Prelude.{◌≡◌, ℕ, List, [], ◌∷◌, map, drop, replicate, Ok, Err, codes}
 use Rattle.kinds.specs.Semiring.{Semiring}
+use Rattle.kinds.specs.Texts.{Notation}
 use Rattle.text.specs.Format.{listed}
 use Rattle.text.specs.Printed.{Lines}
 use Rattle.text.specs.declared.record.Contents.{Contents}
@@ -20,12 +21,12 @@ use Rattle.search.specs.declared.call.Reply.TheVariants.{Done, Value, Chosen}
 use Rattle.report.specs.Report.{refusal, selection_line}
 use Rattle.report.specs.Plant.{unless_file_refused, unless_weights_refused}
 
-module _ {F : Type 0} (text : F → List ℕ) (vs : List Variable) where
+module _ {F : Type 0} (N : Notation F) (vs : List Variable) where
   -- D for done, V and a figure, or the line of a selection
   abbrev pub reply_line : Reply F → List (List ℕ)
   reply_line Done = codes "D" ∷ []
-  reply_line (Value f) = codes "V" ∷ text f ∷ []
-  reply_line (Chosen found) = selection_line text vs found
+  reply_line (Value f) = codes "V" ∷ N.text f ∷ []
+  reply_line (Chosen found) = selection_line N vs found
 
   -- a refused call has the line of its refusal
   abbrev pub answer_line : Answer F → List (List ℕ)
@@ -36,12 +37,12 @@ module _ {F : Type 0} (text : F → List ℕ) (vs : List Variable) where
   answer_lines given = map answer_line given
 
 -- for a sheet and a work table of so many figures, and these calls
-module _ {F : Type 0} (R : Semiring F) (text : F → List ℕ) (pick : Order F) (reading : List ℕ → Option F) (sheet-size work-size : ℕ) (cs : List (Call F)) where
+module _ {F : Type 0} (R : Semiring F) (N : Notation F) (pick : Order F) (sheet-size work-size : ℕ) (cs : List (Call F)) where
   -- for a checked table, with its weight text: the answers of a new study
   abbrev pub table_day : Variables → List Shape → List ℕ → Lines
   table_day vs ss weights =
-      unless_weights_refused R reading vs (replicate sheet-size R.zero) weights (λ sheet.
-      answer_lines text (listed vs) (answers R pick (roles_of vs) ss work-size (new sheet) cs))
+      unless_weights_refused R N vs (replicate sheet-size R.zero) weights (λ sheet.
+      answer_lines N (listed vs) (answers R pick (roles_of vs) ss work-size (new sheet) cs))
 
   -- for a file
   abbrev pub day_report : List ℕ → Lines
@@ -54,8 +55,8 @@ module _ {F : Type 0} (R : Semiring F) (text : F → List ℕ) (pick : Order F) 
       let vs = c.variables in
       let ns = (read_from largest file).nodes in
       let children = (read_from largest file).children in
-      let read = weights_say reading (roles_of vs) R.one (replicate sheet-size R.zero) (drop c.weights file) in
+      let read = weights_say R N (roles_of vs) (replicate sheet-size R.zero) (drop c.weights file) in
       check_says vs ns children ≡ Ok m → read.answer ≡ Ok tt →
       (given : List (Answer F)) × (end : Book F)
       × Day R pick (roles_of vs) (shapes children ns) work-size (new read.sheet) cs given end
-      × (day_report file ≡ answer_lines text (listed vs) given)
+      × (day_report file ≡ answer_lines N (listed vs) given)

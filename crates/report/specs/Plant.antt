@@ -1,6 +1,7 @@
 -- The text that a program prints for a plant's file: a table file with a weight text behind it.
-use Rattle.std.specs.Prelude.{ℕ, List, [], ◌∷◌, length, drop, replicate, Ok, Err, Option, Result}
+use Rattle.std.specs.Prelude.{ℕ, List, [], ◌∷◌, length, drop, replicate, Ok, Err, Result}
 use Rattle.kinds.specs.Semiring.{Semiring}
+use Rattle.kinds.specs.Texts.{Notation}
 use Rattle.text.specs.Format.{listed}
 use Rattle.text.specs.Printed.{Lines}
 use Rattle.text.specs.declared.record.Variables.{Variables}
@@ -38,25 +39,24 @@ unless_file_refused file next =
     unless_refused Table (check_says c.variables (read_from largest file).nodes (read_from largest file).children) (λ _.
     next c.variables (shapes (read_from largest file).children (read_from largest file).nodes) (drop c.weights file)))
 
-module _ {F : Type 0} (R : Semiring F) where
-  -- what follows the sheet that a weight text leaves, if it is accepted; figures are read by `reading`
-  abbrev pub unless_weights_refused : (reading : List ℕ → Option F) → Variables → List F → List ℕ → (List F → Lines) → Lines
-  unless_weights_refused reading vs sheet weights next =
-      unless_refused (λ f. f) (weights_say reading (roles_of vs) R.one sheet weights).answer (λ _.
-      next (weights_say reading (roles_of vs) R.one sheet weights).sheet)
+module _ {F : Type 0} (R : Semiring F) (N : Notation F) where
+  -- what follows the sheet that a weight text leaves, if it is accepted
+  abbrev pub unless_weights_refused : Variables → List F → List ℕ → (List F → Lines) → Lines
+  unless_weights_refused vs sheet weights next =
+      unless_refused (λ f. f) (weights_say R N (roles_of vs) sheet weights).answer (λ _.
+      next (weights_say R N (roles_of vs) sheet weights).sheet)
 
-module _ {F : Type 0} (R : Semiring F) (text : F → List ℕ) (pick : Order F) where
+module _ {F : Type 0} (R : Semiring F) (N : Notation F) (pick : Order F) where
   -- for a sheet and a work table of so many figures: bound and select, where nothing is held
   abbrev pub study_report : (work-size : ℕ) → Variables → List Shape → List F → Lines
   study_report size vs ss sheet =
       unless_refused (λ f. f) (answered (bound_tests (roles_of vs) ss (length sheet) size unheld) (tt {0})) (λ _.
-      report_of text (listed vs) (bound R (roles_of vs) sheet ss unheld) (select R pick (roles_of vs) ss sheet unheld))
+      report_of N (listed vs) (bound R (roles_of vs) sheet ss unheld) (select R pick (roles_of vs) ss sheet unheld))
 
-  module _ (reading : List ℕ → Option F) where
-    -- for a checked table, with its weight text
-    abbrev pub table_report : Variables → List Shape → List ℕ → Lines
-    table_report vs ss weights = unless_weights_refused R reading vs (replicate sheet_room R.zero) weights (study_report work_room vs ss)
+  -- for a checked table, with its weight text
+  abbrev pub table_report : Variables → List Shape → List ℕ → Lines
+  table_report vs ss weights = unless_weights_refused R N vs (replicate sheet_room R.zero) weights (study_report work_room vs ss)
 
-    -- for a file
-    abbrev pub plant_report : List ℕ → Lines
-    plant_report file = unless_file_refused file table_report
+  -- for a file
+  abbrev pub plant_report : List ℕ → Lines
+  plant_report file = unless_file_refused file table_report

@@ -1,5 +1,6 @@
 -- The text that a program prints, as bytes.
 use Rattle.std.specs.Prelude.{ℕ, ◌+◌, ◌&&◌, List, [], ◌∷◌, ◌++◌, Some, None, codes, decimal, Option, if◌then◌else◌}
+use Rattle.kinds.specs.Texts.{Notation}
 use Rattle.text.specs.Format.{is_option_role, spelled}
 use Rattle.text.specs.Printed.{Lines, refusal_fields}
 use Rattle.text.specs.declared.record.Variable.{Variable}
@@ -32,15 +33,15 @@ best_names vs None = []
 best_names vs (Some s) = names_on s.holds.entries 1 vs
 
 -- of figures that have a text
-module _ {F : Type 0} (text : F → List ℕ) where
+module _ {F : Type 0} (N : Notation F) where
   -- B and the bound
   abbrev pub bound_line : F → List (List ℕ)
-  bound_line f = codes "B" ∷ text f ∷ []
+  bound_line f = codes "B" ∷ N.text f ∷ []
 
   -- the best selection's figure, or the word none
   abbrev pub best_text : Option (Selection F) → List ℕ
   best_text None = codes "none"
-  best_text (Some s) = text s.figure
+  best_text (Some s) = N.text s.figure
 
   -- S, the best selection's figure, the openings, and the names of the options that it has on
   abbrev pub selection_line : List Variable → Found F → List (List ℕ)

@@ -20,7 +20,7 @@ pub fn report_text<K: Written>(
     bound: K,
     found: &Found<K>,
 ) -> Result<String, AllocError>
-    ensures { IfOk result (λ s. PlainNames (listed variables.now) → string_bytes s ≡ text_of (report_of K.text (listed variables.now) bound found.now)) }
+    ensures { IfOk result (λ s. PlainNames (listed variables.now) → string_bytes s ≡ text_of (report_of K.notation (listed variables.now) bound found.now)) }
 {
     let bound = bound.write(heap)?;
     let best = selection_text(heap, variables, found)?;
@@ -33,7 +33,7 @@ pub(crate) fn selection_text<K: Written>(
     variables: &Variables,
     found: &Found<K>,
 ) -> Result<String, AllocError>
-    ensures { IfOk result (λ s. PlainNames (listed variables.now) → string_bytes s ≡ text_of (selection_line K.text (listed variables.now) found.now ∷ [])) }
+    ensures { IfOk result (λ s. PlainNames (listed variables.now) → string_bytes s ≡ text_of (selection_line K.notation (listed variables.now) found.now ∷ [])) }
 {
     let openings = found.openings;
     match found.best {

@@ -43,8 +43,8 @@ pub fn day_report<K: Written, O: BranchingOrder<K>>(
     file: &[u8],
     calls: &[Call<K>],
 ) -> Result<String, AllocError>
-    ensures text { IfOk result (λ s. string_bytes s ≡ text_of (day_report K.ring K.text (O.picks order.now) K.reading sizes.sheet sizes.work calls.now file.now)) }
-    ensures day { MakesDay K.ring K.text (O.picks order.now) K.reading sizes.sheet sizes.work calls.now file.now }
+    ensures text { IfOk result (λ s. string_bytes s ≡ text_of (day_report K.ring K.notation (O.picks order.now) sizes.sheet sizes.work calls.now file.now)) }
+    ensures day { MakesDay K.ring K.notation (O.picks order.now) sizes.sheet sizes.work calls.now file.now }
 {
     printed(heap, file_day::<K, O>(heap, order, sizes, file, calls))
 }
@@ -57,7 +57,7 @@ fn file_day<K: Written, O: BranchingOrder<K>>(
     file: &[u8],
     calls: &[Call<K>],
 ) -> Result<String, Stop>
-    ensures { Prints (Unit {0}) (day_report K.ring K.text (O.picks order.now) K.reading sizes.sheet sizes.work calls.now file.now) result }
+    ensures { Prints (Unit {0}) (day_report K.ring K.notation (O.picks order.now) sizes.sheet sizes.work calls.now file.now) result }
 {
     let room = Room::largest();
     let parts = Parts::read(heap, &room, file)??;
@@ -74,7 +74,7 @@ fn table_day<K: Written, O: BranchingOrder<K>>(
     weights: &[u8],
     calls: &[Call<K>],
 ) -> Result<String, Stop>
-    ensures { Prints (PlainNames (listed table.now.variables)) (table_day_of K.ring K.text (O.picks order.now) K.reading sizes.sheet sizes.work calls.now table.now.variables (circuit table.now) weights.now) result }
+    ensures { Prints (PlainNames (listed table.now.variables)) (table_day_of K.ring K.notation (O.picks order.now) sizes.sheet sizes.work calls.now table.now.variables (circuit table.now) weights.now) result }
 {
     let mut figures = zeros::<K>(heap, sizes.sheet)?;
     let mut work = zeros::<K>(heap, sizes.work)?;
@@ -109,7 +109,7 @@ fn answers_text<K: Written>(
     variables: &Variables,
     answers: &[Answer<K>],
 ) -> Result<String, AllocError>
-    ensures { IfOk result (λ s. PlainNames (listed variables.now) → string_bytes s ≡ text_of (answer_lines K.text (listed variables.now) answers.now)) }
+    ensures { IfOk result (λ s. PlainNames (listed variables.now) → string_bytes s ≡ text_of (answer_lines K.notation (listed variables.now) answers.now)) }
 {
     let mut text = String::new(heap);
     for answer in answers {
@@ -125,7 +125,7 @@ fn answer_text<K: Written>(
     variables: &Variables,
     answer: Answer<K>,
 ) -> Result<String, AllocError>
-    ensures { IfOk result (λ s. PlainNames (listed variables.now) → string_bytes s ≡ text_of (answer_line K.text (listed variables.now) answer ∷ [])) }
+    ensures { IfOk result (λ s. PlainNames (listed variables.now) → string_bytes s ≡ text_of (answer_line K.notation (listed variables.now) answer ∷ [])) }
 {
     match answer {
         Ok(Reply::Done) => String::from_str(heap, "D\n"),

@@ -30,7 +30,7 @@ pub fn plant_report<K: Written, O: BranchingOrder<K>>(
     order: &O,
     file: &[u8],
 ) -> Result<String, AllocError>
-    ensures { IfOk result (λ s. string_bytes s ≡ text_of (plant_report K.ring K.text (O.picks order.now) K.reading file.now)) }
+    ensures { IfOk result (λ s. string_bytes s ≡ text_of (plant_report K.ring K.notation (O.picks order.now) file.now)) }
 {
     printed(heap, file_report::<K, O>(heap, order, file))
 }
@@ -51,7 +51,7 @@ fn file_report<K: Written, O: BranchingOrder<K>>(
     order: &O,
     file: &[u8],
 ) -> Result<String, Stop>
-    ensures { Prints (Unit {0}) (plant_report K.ring K.text (O.picks order.now) K.reading file.now) result }
+    ensures { Prints (Unit {0}) (plant_report K.ring K.notation (O.picks order.now) file.now) result }
 {
     let room = Room::largest();
     let parts = Parts::read(heap, &room, file)??;
@@ -66,7 +66,7 @@ fn table_report<K: Written, O: BranchingOrder<K>>(
     table: &Table,
     weights: &[u8],
 ) -> Result<String, Stop>
-    ensures { Prints (PlainNames (listed table.now.variables)) (table_report_of K.ring K.text (O.picks order.now) K.reading table.now.variables (circuit table.now) weights.now) result }
+    ensures { Prints (PlainNames (listed table.now.variables)) (table_report_of K.ring K.notation (O.picks order.now) table.now.variables (circuit table.now) weights.now) result }
 {
     let mut figures = zeros::<K>(heap, LARGEST_SHEET)?;
     let mut work = zeros::<K>(heap, WORK_ROOM)?;

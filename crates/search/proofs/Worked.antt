@@ -1,6 +1,6 @@
 -- The small tables' cases, by computing.
 use Rattle.std.proofs.Common.{refl}
-use Rattle.kinds.specs.Tallies.{same_count}
+use Rattle.kinds.specs.TallyLaws.{same_count}
 use Rattle.table.specs.Circuit.{onward}
 use Rattle.table.specs.Count.{figure, sum_over, scenario_weight}
 use Rattle.table.specs.Sound.{verdict_from}

@@ -2,9 +2,9 @@
 use Rattle.std.specs.Prelude.{◌≡◌, ℕ, true, false, List, [], ◌∷◌, Some, None, Option}
 use Rattle.kinds.specs.Tallies.{tally, tallies}
 use Rattle.kinds.specs.Peaks.{load, peaks}
-use Rattle.kinds.specs.declared.value.Peak.{Peak}
-use Rattle.kinds.specs.declared.value.Peak.TheVariants.{Load}
-use Rattle.kinds.specs.declared.value.Tally.{Tally}
+use Rattle.kinds.specs.declared.peak.Peak.{Peak}
+use Rattle.kinds.specs.declared.peak.Peak.TheVariants.{Load}
+use Rattle.kinds.specs.declared.tally.Tally.{Tally}
 use Rattle.table.specs.Circuit.{Shape, lit, all, fork}
 use Rattle.table.specs.Count.{figure}
 use Rattle.table.specs.Faults.{fault_number, fault_place}

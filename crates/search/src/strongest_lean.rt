@@ -5,8 +5,7 @@ ghost use Rattle.search.specs.Lawful.{lawful_strongest};
 
 use crate::choice::Choice;
 use crate::order::BranchingOrder;
-use kinds::figure::Figure;
-use kinds::order::lesser;
+use kinds::figure::{Figure, lesser};
 
 /// Of the free options that the root mentions the first whose weaker value ranks lowest; the first
 /// of all if the root mentions none.

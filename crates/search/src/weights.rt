@@ -1,14 +1,14 @@
 //! The reader of a weight text.
-ghost use Rattle.std.specs.Prelude.{◌≡◌, ◌<◌, ◌≤◌, length, replicate};
+ghost use Rattle.std.specs.Prelude.{◌≡◌, ◌≤◌, length, replicate};
 ghost use Rattle.text.specs.Format.{overwritten};
-ghost use Rattle.text.specs.Lines.{fields};
 ghost use Rattle.table.specs.Whole.{roles};
-ghost use Rattle.search.specs.Weights.{field_at, is_weight_line, weight_field, form_says, weight_line_says, weights_say, WeighsAccepted};
+ghost use Rattle.search.specs.Weights.{is_weight_line, form_says, weight_line_says, weights_say, WeighsAccepted};
 
 use crate::fault::Fault;
 use crate::requirements::{require_chance, require_sheet};
 use crate::weighing::Weighing;
 use kinds::figure::Figure;
+use kinds::line::figure_at;
 use kinds::written::Written;
 use passes::sheet::Sheet;
 use table::table::Table;
@@ -16,37 +16,30 @@ use text::fault::{Fault as TextFault, Reason};
 use text::fields::{all_printable, field, field_count, first_line};
 use text::lines::number_field;
 
-/// Whether a line has its bytes, its fields and its letter.
-fn is_weight_line(text: &[u8]) -> bool
-    ensures { result ≡ is_weight_line text.now }
+/// Whether a line has its bytes, its letter and so many fields.
+fn is_weight_line(text: &[u8], count: usize) -> bool
+    ensures { result ≡ is_weight_line count text.now }
 {
-    all_printable(text) && field_count(text) == 4 && field(text, 0) == b"W".as_slice()
-}
-
-/// The weight in the field `k` of a line.
-fn read_weight<K: Written>(text: &[u8], k: usize) -> Result<K, Reason>
-    requires { k < length (fields text.now) }
-    ensures { result ≡ weight_field K.reading (field_at k text.now) }
-{
-    K::read(field(text, k)).ok_or(Reason::Number)
+    all_printable(text) && field_count(text) == count && field(text, 0) == b"W".as_slice()
 }
 
 /// What a line says by its form.
 fn read_weighing<K: Written>(text: &[u8]) -> Result<Weighing<K>, Reason>
-    ensures { result ≡ form_says K.reading text.now }
+    ensures { result ≡ form_says K.notation text.now }
 {
-    if !is_weight_line(text) {
+    let fields = usize::from(K::FIELDS);
+    if !is_weight_line(text, 2 + 2 * fields) {
         return Err(Reason::Line);
     }
     let variable = number_field(text, 1)?;
-    let on = read_weight(text, 2)?;
-    let off = read_weight(text, 3)?;
+    let on = figure_at(text, 2)?;
+    let off = figure_at(text, 2 + fields)?;
     Ok(Weighing { variable, on, off })
 }
 
 /// What the line of this number says of a table: its form is judged before its chance.
 fn weight_line<K: Written>(table: &Table, text: &[u8], line: usize) -> Result<Weighing<K>, Fault>
-    ensures { result ≡ weight_line_says K.reading (roles table.now) line text.now }
+    ensures { result ≡ weight_line_says K.notation (roles table.now) line text.now }
 {
     let weighing = read_weighing(text).map_err(|reason| TextFault::Line { reason, line })?;
     require_chance(table, weighing.variable).map_err(|_| Fault::WeightLine { line })?;
@@ -61,7 +54,6 @@ fn write_ones<K: Figure>(figures: &mut [K], count: usize)
     figures[..count].fill_with(|| K::one());
 }
 
-// Clause `same`: a type's invariant cannot speak of before and after, and a name would say no more.
 /// Reads a weight text: writes one to every variable's two places and then the weights of each
 /// line to its chance's, or answers the first refusal that fits. A text refused at a line leaves
 /// the ones and the lines before it; a sheet that is too short is left as it is.
@@ -71,9 +63,10 @@ pub fn read_weights<K: Written>(
     text: &[u8],
 ) -> Result<(), Fault>
     ensures same { sheet.new.figures.ghost_name ≡ sheet.old.figures.ghost_name }
-    ensures answer { result ≡ (weights_say K.reading (roles table.now) K.ring.one sheet.old.figures.now text.now).answer }
-    ensures weighs { WeighsAccepted K.ring K.reading (roles table.now) sheet.old.figures.now text.now }
-    ensures sheet { sheet.new.figures.now ≡ (weights_say K.reading (roles table.now) K.ring.one sheet.old.figures.now text.now).sheet }
+    ensures answer { result ≡ (weights_say K.ring K.notation (roles table.now) sheet.old.figures.now text.now).answer }
+    ensures weighs { WeighsAccepted K.ring K.notation (roles table.now) sheet.old.figures.now text.now }
+    ensures sheet { sheet.new.figures.now
+        ≡ (weights_say K.ring K.notation (roles table.now) sheet.old.figures.now text.now).sheet }
 {
     require_sheet(table, sheet.figures.len())?;
     let count = 2 * table.variables.as_slice().len();

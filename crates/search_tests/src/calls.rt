@@ -1,6 +1,6 @@
 //! The calls on plant K, with answers worked out by hand.
 use crate::steps::{MARK, Step, Study, table_of};
-use kinds::value::Peak;
+use kinds::peak::Peak;
 use kinds::written::Written;
 use passes::holds::Holds;
 use plants::files::PLANT;

@@ -2,7 +2,7 @@
 use crate::shown::{show_answer, show_figures, show_holds};
 use crate::spoken::call_of;
 use crate::steps::{MARK, Step, table_of};
-use kinds::value::Tally;
+use kinds::tally::Tally;
 use kinds::written::Written;
 use passes::sheet::Sheet;
 use plants::files::PLANT;

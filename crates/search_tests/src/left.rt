@@ -1,7 +1,7 @@
 //! What the calls leave in the work table.
 use crate::shown::show_figures;
 use crate::steps::{Held, MARK, Step, Study, holds_of, table_of};
-use kinds::value::Tally;
+use kinds::tally::Tally;
 use kinds::written::Written;
 use plants::files::PLANT;
 use plants::stores::Stores;

@@ -1,8 +1,8 @@
 //! Select against all selections, one by one.
 use crate::steps::{Step, Study, table_of};
-use kinds::figure::Figure;
-use kinds::order::greater;
-use kinds::value::{Peak, Tally};
+use kinds::figure::{Figure, greater};
+use kinds::peak::Peak;
+use kinds::tally::Tally;
 use kinds::written::Written;
 use passes::holds::{Entry, Holds};
 use passes::sheet::Sheet;
@@ -58,7 +58,7 @@ fn lowest_free(holds: &Holds) -> Option<u16> {
 
 fn sheet_of<K: Written>(text: &str, heap: Global) -> Result<Vec<K>, Fail> {
     text.split_whitespace()
-        .map(|word| K::read(word.as_bytes()).ok_or_else(|| Fail::new("no figure")))
+        .map(|word| K::read(word.as_bytes()).map_err(|_| Fail::new("no figure")))
         .try_collect(heap)
 }
 

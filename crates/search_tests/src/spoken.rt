@@ -21,8 +21,8 @@ fn side_of(text: &str) -> Option<bool> {
 
 fn weigh_of<K: Written>(text: &str) -> Option<Call<K>> {
     let variable = variable_of(text)?;
-    let on = K::read(word(text, 2)?.as_bytes())?;
-    let off = K::read(word(text, 3)?.as_bytes())?;
+    let on = K::read(word(text, 2)?.as_bytes()).ok()?;
+    let off = K::read(word(text, 3)?.as_bytes()).ok()?;
     Some(Call::Weigh { variable, on, off })
 }
 

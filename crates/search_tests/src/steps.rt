@@ -1,7 +1,7 @@
 //! Calls one by one, with what each may change.
 use crate::shown::{show_answer, show_figures, show_holds};
 use crate::spoken::call_of;
-use kinds::value::Tally;
+use kinds::tally::Tally;
 use kinds::written::Written;
 use passes::holds::Holds;
 use passes::sheet::Sheet;

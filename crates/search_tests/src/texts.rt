@@ -1,7 +1,7 @@
 //! Weight texts.
 use crate::shown::{show_fault, show_figures};
 use crate::steps::{MARK, table_of};
-use kinds::value::Peak;
+use kinds::peak::Peak;
 use kinds::written::Written;
 use passes::sheet::Sheet;
 use plants::files::PLANT;

@@ -1,13 +1,15 @@
 //! Tallies and peaks as text, at their edges.
-use kinds::value::{Peak, Tally};
+use kinds::peak::Peak;
+use kinds::tally::Tally;
 use kinds::written::Written;
 use std::alloc::{AllocError, Global};
 use std::process::Abort;
 use std::test::Fail;
+use text::fault::Reason;
 
 // Whether `text` is read as a figure, and the figure written as `text` again.
 fn comes_back<W: Written>(text: &str, heap: Global) -> Result<bool, AllocError> {
-    let Some(figure) = W::read(text.as_bytes()) else {
+    let Ok(figure) = W::read(text.as_bytes()) else {
         return Ok(false);
     };
     let again = figure.write(heap)?;
@@ -24,7 +26,11 @@ fn check_texts<W: Written>(
         assert!(rt; comes_back::<W>(*text, heap)?, "{text}");
     }
     for text in spoiled {
-        assert!(rt; W::read(text.as_bytes()).is_none(), "{text}");
+        assert_eq!(rt;
+            W::read(text.as_bytes()).err(),
+            Some(Reason::Number),
+            "{text}"
+        );
     }
     Ok(())
 }

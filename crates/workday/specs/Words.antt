@@ -6,7 +6,7 @@ use Rattle.text.specs.declared.fault.Fault.TheVariants as text
 use Rattle.table.specs.declared.fault.Flaw.{Flaw}
 use Rattle.table.specs.declared.fault.Flaw.TheVariants as flaw
 use Rattle.table.specs.declared.fault.Fault.TheVariants as table
-use Rattle.kinds.specs.declared.value.Tally.{Tally}
+use Rattle.kinds.specs.declared.tally.Tally.{Tally}
 use Rattle.search.specs.Faults.{fault_number, fault_place}
 use Rattle.search.specs.declared.fault.Fault.{Fault}
 use Rattle.search.specs.declared.fault.Fault.TheVariants.{Table, ShortSheet, StrayHold, NoOption, NoChance, WeightLine, Held, NotHeld, StillFree, ShortWork}

@@ -5,7 +5,7 @@ ghost use Rattle.workday.specs.Told.{refused_words, check_refusal, refusal_of, S
 ghost use Rattle.workday.specs.Words.{options_words, chances_words};
 
 use crate::words::{Answer, AnswerWords, CallWords, RefusalWords};
-use kinds::value::Tally;
+use kinds::tally::Tally;
 use parts::stores::{Parts, Room};
 use passes::holds::Entry;
 use passes::places::pair_places;

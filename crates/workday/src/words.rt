@@ -2,7 +2,7 @@
 ghost use Rattle.std.specs.Prelude.{◌≡◌, Some};
 ghost use Rattle.workday.specs.Words.{meaning_of, reason_meaning, flaw_meaning, place_word, refusal_words, side_word, call_words, answer_words};
 
-use kinds::value::Tally;
+use kinds::tally::Tally;
 use search::call::{Call, Reply};
 use search::fault::Fault;
 use std::fmt;

@@ -10,9 +10,9 @@ pub loop-answer-preserved : goal.loop-answer-preserved
 loop-answer-preserved g c = λ plain.
     c.in_ok-push_str.ensures.bytes
     ∙ ap (λ l. string_bytes c.loop-answer.text ++ l) c.as_str.ensures.value
-    ∙ answered_on g.K.Written.text (listed c.args.variables.now) c.args.answers.now c.loop-answer.answer-index c.answer-item.result (string_bytes c.loop-answer.text) (string_bytes c.in_ok-line.line)
+    ∙ answered_on g.K.Written.notation (listed c.args.variables.now) c.args.answers.now c.loop-answer.answer-index c.answer-item.result (string_bytes c.loop-answer.text) (string_bytes c.in_ok-line.line)
     c.loop-answer-test.true c.answer-item.is (c.loop-answer.invariant plain) (c.in_ok-line.ensures plain)
 
 pub returns : goal.returns
 returns g c = λ plain.
-    c.loop-answer.invariant plain ∙ ap (λ l. text_of (answer_lines g.K.Written.text (listed c.args.variables.now) l)) (take_all c.loop-answer.answer-index c.args.answers.now c.loop-answer-test.false)
+    c.loop-answer.invariant plain ∙ ap (λ l. text_of (answer_lines g.K.Written.notation (listed c.args.variables.now) l)) (take_all c.loop-answer.answer-index c.args.answers.now c.loop-answer-test.false)

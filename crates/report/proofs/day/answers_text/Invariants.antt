@@ -7,4 +7,4 @@ use Rattle.report.proofs.day.answers_text.Given as goal
 
 abbrev pub invariant-loop-answer : goal.invariant-loop-answer
 invariant-loop-answer g l =
-    PlainNames (listed l.variables) → string_bytes l.text ≡ text_of (answer_lines g.K.Written.text (listed l.variables) (take l.answer-index l.answers))
+    PlainNames (listed l.variables) → string_bytes l.text ≡ text_of (answer_lines g.K.Written.notation (listed l.variables) (take l.answer-index l.answers))

@@ -16,10 +16,10 @@ returns g c = λ plain.
     let sheet = c.read_weights.new.sheet.figures.now in
     let cs = c.args.calls.now in
     c.in_ok-answers_text.ensures plain
-    ∙ ap (λ l. text_of (answer_lines g.K.Written.text (listed t.variables) l))
+    ∙ ap (λ l. text_of (answer_lines g.K.Written.notation (listed t.variables) l))
     (c.deref.ensures.value ∙ c.in_ok-answers.ensures ∙ ap (λ k. answers R pick (roles t) (circuit t) k (new sheet) cs)
     (ap length (c.deref_mut-2.ensures.value ∙ c.in_ok-work.ensures) ∙ length-replicate c.args.sizes.work R.zero))
-    ∙ ap text_of (sym (read R g.K.Written.reading t.variables
+    ∙ ap text_of (sym (read R g.K.Written.notation t.variables
     (replicate c.args.sizes.sheet R.zero) c.deref_mut.result.now (c.deref_mut.ensures.value ∙ c.in_ok-figures.ensures) c.args.weights.now
-    (λ s. answer_lines g.K.Written.text (listed t.variables) (answers R pick (roles t) (circuit t) c.args.sizes.work (new s) cs))
+    (λ s. answer_lines g.K.Written.notation (listed t.variables) (answers R pick (roles t) (circuit t) c.args.sizes.work (new s) cs))
     c.in_ok-read_weights.ensures.answer sheet c.in_ok-read_weights.ensures.sheet))

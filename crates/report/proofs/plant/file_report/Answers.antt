@@ -12,7 +12,7 @@ pub returns-in_err-table : goal.returns-in_err-table
 returns-in_err-table g c =
     let p = c.in_ok-parts.parts in
     refused_says _ _ _ c.from_residual-in_err-table.result c.from_residual-in_err-table.ensures
-    (unchecked (table_report g.K.Figure.ring g.K.Written.text (g.O.BranchingOrder.picks c.args.order.now) g.K.Written.reading) c.args.file.now p
+    (unchecked (table_report g.K.Figure.ring g.K.Written.notation (g.O.BranchingOrder.picks c.args.order.now)) c.args.file.now p
     (parts_of _ _ _ c.in_ok-read.field-0 p c.largest-room.ensures c.in_ok-parts.was c.in_ok-read.ensures)
     c.deref.result.now c.deref-2.result.now c.deref.ensures.value c.deref-2.ensures.value _ c.in_err-table.ensures.fault)
 
@@ -24,6 +24,6 @@ returns g c =
     let a = parts_of _ _ _ c.in_ok-read.field-0 p c.largest-room.ensures c.in_ok-parts.was c.in_ok-read.ensures in
     let P : Variables → Type 0 = λ vs. PlainNames (listed vs) in
     says_of _ _ _ c.table_report.result (subst P (sym e.2) (plain_names (listed p.contents.variables) a.names_are))
-    (checked_file (table_report g.K.Figure.ring g.K.Written.text (g.O.BranchingOrder.picks c.args.order.now) g.K.Written.reading) c.args.file.now p a
+    (checked_file (table_report g.K.Figure.ring g.K.Written.notation (g.O.BranchingOrder.picks c.args.order.now)) c.args.file.now p a
     c.deref.result.now c.deref-2.result.now c.deref.ensures.value c.deref-2.ensures.value t.mentions t c.weights.result.now e.0 e.1 e.2 e.3 c.weights.ensures)
     c.table_report.ensures

@@ -1,5 +1,5 @@
 use Rattle.std.proofs.Common.{refl}
-use Rattle.kinds.specs.Peaks.{same_peak}
+use Rattle.kinds.specs.PeakLaws.{same_peak}
 use Rattle.kinds.proofs.peak.PeakFigure.one.Goals as goal
 
 pub returns : goal.returns

@@ -1,5 +1,6 @@
 use Rattle.std.proofs.Common.{sym, ◌∙◌, ap₂}
-use Rattle.kinds.specs.Peaks.{same_peak, peak_product}
+use Rattle.kinds.specs.Peaks.{peak_product}
+use Rattle.kinds.specs.PeakLaws.{same_peak}
 use Rattle.kinds.proofs.peak.PeakFigure.times.Goals as goal
 
 pub returns-in-Load-Load : goal.returns-in-Load-Load
