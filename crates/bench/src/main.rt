@@ -12,8 +12,7 @@ use kinds::peak::Peak;
 use kinds::tally::Tally;
 use kinds::written::Written;
 use measure::{holds_of, repeat_bound, repeat_check, repeat_select};
-use parts::read::MOST_READ;
-use parts::stores::{Parts, Room};
+use parts::stores::{MOST_READ, Parts, Room};
 use passes::sheet::{LARGEST_SHEET, Sheet};
 use search::number_order::NumberOrder;
 use search::order::BranchingOrder;
@@ -140,7 +139,7 @@ fn main(rt: HostRuntime) -> io::Result<()> {
         Ok(parts) => parts,
         Err(fault) => return print!(rt; "{}", RefusalLine(fault)),
     };
-    let table = match Table::check(&parts.nodes, &parts.children, parts.contents.variables) {
+    let table = match parts.table() {
         Ok(table) => table,
         Err(fault) => return print!(rt; "{}", RefusalLine(fault)),
     };

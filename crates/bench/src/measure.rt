@@ -22,11 +22,7 @@ pub(crate) fn repeat_check(
     let mut nodes = Ok(0);
     for _ in 0..repeats {
         nodes = match Parts::read(heap, &room, file)? {
-            Ok(parts) => {
-                Table::check(&parts.nodes, &parts.children, parts.contents.variables).map(
-                    |table| table.nodes.len(),
-                )
-            }
+            Ok(parts) => parts.table().map(|table| table.nodes.len()),
             Err(fault) => Err(Unsound::Text(fault)),
         };
     }

@@ -11,8 +11,7 @@ mod setup;
 use std::io;
 use std::io::Read;
 
-// To the end of the input: a script may have any length. As in `quote`, no contract says what standard
-// input gives.
+// To the end of the input: a script may have any length.
 fn main(rt: HostRuntime) -> io::Result<()> {
     let mut input = Vec::new(rt.alloc());
     rt.stdin().read_to_end(&mut input)?;

@@ -1,8 +1,12 @@
--- The parts of a table, from its file.
+-- The parts of a table, from its file, and the table that is made of them.
 use Rattle.std.specs.Prelude.{◌≡◌, ℕ, true, List, Ok, Err, Result}
 use Rattle.std.specs.List.{list_all}
 use Rattle.text.specs.Format.{Reading, file_says, listed, named_printable}
 use Rattle.text.specs.declared.fault.Fault.{Fault}
+use Rattle.table.specs.Check.{check_says}
+use Rattle.table.specs.declared.fault.Fault as table
+use Rattle.table.specs.declared.mentions.Mentions.{Mentions}
+use Rattle.table.specs.declared.table.Table.{Table}
 use Rattle.parts.specs.declared.stores.Room.{Room}
 use Rattle.parts.specs.declared.stores.Parts.{Parts}
 
@@ -25,3 +29,14 @@ pub record ArePartsOf (r : Room) (file : List ℕ) (p : Parts) : Type 0 where
 abbrev pub Reads : Room → List ℕ → Result Parts Fault → Type 0
 Reads r file (Ok p) = ArePartsOf r file p
 Reads r file (Err f) = (read_from r file).answer ≡ Err f
+
+-- what the check answers for these parts
+abbrev pub check_parts : Parts → Result Mentions table.Fault
+check_parts p = check_says p.contents.variables p.nodes.items p.children.items
+
+-- a table has these parts, and the check accepts them
+pub record IsTableOf (p : Parts) (t : Table) : Type 0 where
+  pub nodes_are : t.nodes.now ≡ p.nodes.items
+  pub children_are : t.children.now ≡ p.children.items
+  pub variables_are : t.variables ≡ p.contents.variables
+  pub is_accepted : check_parts p ≡ Ok t.mentions

@@ -1,5 +1,4 @@
 //! The parts of a table on the heap, for programs and tests.
 #![tactic(auto)]
 
-pub mod read;
 pub mod stores;

@@ -1,10 +1,10 @@
 //! What the three passes answer.
 use kinds::figure::Figure;
-use parts::stores::Room;
+use parts::stores::{Parts, Room};
 use passes::holds::Holds;
 use passes::places::pair_places;
 use passes::query::Query;
-use plants::stores::Stores;
+use plants::reading::read_into;
 use std::alloc::Global;
 use std::test::Fail;
 
@@ -52,18 +52,18 @@ const SMALL: Room = Room {
 };
 
 /// A file's parts, from small stores.
-pub(crate) fn read(file: &str, heap: Global) -> Result<Stores, Fail> {
-    Stores::read_into(file, &SMALL, heap)
+pub(crate) fn read(file: &str, heap: Global) -> Result<Parts, Fail> {
+    read_into(file, &SMALL, heap)
 }
 
 /// What the passes answer for the table of these parts.
 pub(crate) fn ask<K: Figure>(
-    stores: &Stores,
+    parts: &Parts,
     sheet: &[K],
     holds: &Holds,
     work: &mut [K],
 ) -> Result<Answers<K>, Fail> {
-    let table = stores.table().map_err(|_| Fail::new("refused"))?;
+    let table = parts.table().map_err(|_| Fail::new("refused"))?;
     if sheet.len() < 2 * table.variables.as_slice().len() {
         return Err(Fail::new("the sheet is too short"));
     }

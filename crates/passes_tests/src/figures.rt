@@ -2,8 +2,8 @@
 use crate::asking::{ask, holds_of, read};
 use kinds::peak::{Load, Peak};
 use kinds::tally::Tally;
+use parts::stores::Parts;
 use plants::files::{PLANT, file};
-use plants::stores::Stores;
 use std::alloc::Global;
 use std::iter;
 use std::process::Abort;
@@ -23,7 +23,7 @@ pub(crate) fn tallies(counts: &[u64], heap: Global) -> Result<Vec<Tally>, Fail> 
 /// The passes answer this on this sheet of tallies.
 pub(crate) fn check_tallies(
     rt: &impl Abort,
-    stores: &Stores,
+    parts: &Parts,
     sheet: &[u64],
     due: &Due,
     heap: Global,
@@ -32,7 +32,7 @@ pub(crate) fn check_tallies(
     let figures = tallies(sheet, heap)?;
     let mut work = vec![in heap; Tally { count: MARK }; 512]?;
     let answers = ask(
-        stores,
+        parts,
         figures.as_slice(),
         &holds_of(*letters),
         work.as_mut_slice(),
@@ -71,14 +71,14 @@ const HOT_DAY_WORK: &[&[u64]] = &[
 
 #[test]
 fn plant(rt: HostRuntime) -> Result<(), Fail> {
-    let stores = read(PLANT, rt.alloc())?;
+    let parts = read(PLANT, rt.alloc())?;
     for due in HOT_DAY_DUE {
-        check_tallies(&rt, &stores, HOT_DAY, due, rt.alloc())?;
+        check_tallies(&rt, &parts, HOT_DAY, due, rt.alloc())?;
     }
     for due in EVEN_DAY_DUE {
-        check_tallies(&rt, &stores, EVEN_DAY, due, rt.alloc())?;
+        check_tallies(&rt, &parts, EVEN_DAY, due, rt.alloc())?;
     }
-    let work = check_tallies(&rt, &stores, HOT_DAY, &("-", 3, 10, 7), rt.alloc())?;
+    let work = check_tallies(&rt, &parts, HOT_DAY, &("-", 3, 10, 7), rt.alloc())?;
     // behind what the passes write the marks stay
     let written = HOT_DAY_WORK.iter().flat_map(|part| part.iter().copied());
     for (i, (figure, due)) in work
@@ -96,14 +96,14 @@ const LOADS: &[(&str, u32)] = &[("-", 9000), ("1", 4000), ("0", 9000)];
 
 #[test]
 fn loads(rt: HostRuntime) -> Result<(), Fail> {
-    let stores = read(PLANT, rt.alloc())?;
+    let parts = read(PLANT, rt.alloc())?;
     let none = Peak::Impossible;
     let hot = Peak::Load(Load { watts: 9000 });
     let mild = Peak::Load(Load { watts: 4000 });
     for (letters, due) in LOADS {
         let mut work = [none; 21];
         let answers = ask(
-            &stores,
+            &parts,
             &[none, none, hot, mild],
             &holds_of(*letters),
             &mut work,
@@ -130,14 +130,14 @@ const CAPPED: Due = ("-", CAP, CAP, CAP);
 #[test]
 fn capped(rt: HostRuntime) -> Result<(), Fail> {
     let text = file("R", "L 1/L -1/O 1 0 1", rt.alloc())?;
-    let stores = read(text.as_str(), rt.alloc())?;
+    let parts = read(text.as_str(), rt.alloc())?;
     check_tallies(
         &rt,
-        &stores,
+        &parts,
         &[HALF, 9_223_372_036_854_775_807],
         &CAPPED,
         rt.alloc(),
     )?;
-    check_tallies(&rt, &stores, &[HALF, HALF], &CAPPED, rt.alloc())?;
+    check_tallies(&rt, &parts, &[HALF, HALF], &CAPPED, rt.alloc())?;
     Ok(())
 }

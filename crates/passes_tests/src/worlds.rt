@@ -2,9 +2,9 @@
 use crate::asking::{ask, read};
 use crate::figures::{Due, MARK, check_tallies, tallies};
 use kinds::tally::Tally;
+use parts::stores::Parts;
 use passes::holds::{Entry, Holds};
 use plants::files::{BLOCK_ROLES, BLOCKS, file};
-use plants::stores::Stores;
 use std::alloc::Global;
 use std::test::Fail;
 use text::record::{Form, Node};
@@ -37,11 +37,11 @@ fn count_true(node: &Node, children: &[u16], truths: &[bool]) -> usize {
 }
 
 // Whether a world makes the root true.
-fn holds_in(stores: &Stores, world: u64, heap: Global) -> Result<bool, Fail> {
+fn holds_in(parts: &Parts, world: u64, heap: Global) -> Result<bool, Fail> {
     let mut truths = Vec::new(heap);
     let mut last = false;
-    for node in stores.nodes.as_slice() {
-        let count = count_true(node, stores.children.as_slice(), truths.as_slice());
+    for node in parts.nodes.as_slice() {
+        let count = count_true(node, parts.children.as_slice(), truths.as_slice());
         last = match node.form {
             Form::Literal { variable, on } => is_on(world, variable) == on,
             Form::And => count == node.count as usize,
@@ -63,11 +63,11 @@ fn weight_of(world: u64) -> u64 {
 }
 
 // The figure of a selection, from its 16 worlds.
-fn figure_of(stores: &Stores, selection: u64, heap: Global) -> Result<u64, Fail> {
+fn figure_of(parts: &Parts, selection: u64, heap: Global) -> Result<u64, Fail> {
     let mut sum = 0u64;
     for scenario in 0..16u64 {
         let world = selection.wrapping_add(scenario.wrapping_mul(16));
-        if holds_in(stores, world, heap)? {
+        if holds_in(parts, world, heap)? {
             sum = sum.wrapping_add(weight_of(world));
         }
     }
@@ -75,14 +75,13 @@ fn figure_of(stores: &Stores, selection: u64, heap: Global) -> Result<u64, Fail>
 }
 
 // The figures of the 16 selections, from all 256 worlds.
-fn figures_of(stores: &Stores, heap: Global) -> Result<Vec<u64>, Fail> {
+fn figures_of(parts: &Parts, heap: Global) -> Result<Vec<u64>, Fail> {
     (0..16u64)
-        .map(|selection| figure_of(stores, selection, heap))
+        .map(|selection| figure_of(parts, selection, heap))
         .try_collect(heap)
 }
 
 // Holds by a number below 81: a digit to base 3 for each option, 0 free, 1 on, 2 off.
-// It stands in two test crates: in a library it would want a contract longer than itself.
 fn holds_at(number: u64) -> Holds {
     let mut holds = Holds::new();
     let mut rest = number;
@@ -120,18 +119,18 @@ fn kept_by(holds: &Holds, figures: &[u64], heap: Global) -> Result<Vec<u64>, Fai
 fn worlds(rt: HostRuntime) -> Result<(), Fail> {
     let heap = rt.alloc();
     let text = file(BLOCK_ROLES, BLOCKS, heap)?;
-    let stores = read(text.as_str(), heap)?;
+    let parts = read(text.as_str(), heap)?;
     for due in BY_HAND {
-        check_tallies(&rt, &stores, WEIGHTS, due, heap)?;
+        check_tallies(&rt, &parts, WEIGHTS, due, heap)?;
     }
-    let figures = figures_of(&stores, heap)?;
+    let figures = figures_of(&parts, heap)?;
     let sheet = tallies(WEIGHTS, heap)?;
     let mut work = vec![in heap; Tally { count: MARK }; 297]?;
     for number in 0..81u64 {
         let holds = holds_at(number);
         let kept = kept_by(&holds, figures.as_slice(), heap)?;
         let best = kept.iter().copied().max().unwrap_or(0);
-        let answers = ask(&stores, sheet.as_slice(), &holds, work.as_mut_slice())?;
+        let answers = ask(&parts, sheet.as_slice(), &holds, work.as_mut_slice())?;
         let bound = answers.bound.count;
         assert_eq!(rt;
             Some(answers.figure.count),

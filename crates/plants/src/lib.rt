@@ -2,4 +2,4 @@
 #![tactic(auto)]
 
 pub mod files;
-pub mod stores;
+pub mod reading;

@@ -5,11 +5,13 @@ use Rattle.std.specs.declared.alloc.Global.{Global}
 use Rattle.kinds.specs.Semiring.{Semiring}
 use Rattle.kinds.specs.Texts.{Notation}
 use Rattle.text.specs.Format.{listed}
-use Rattle.text.specs.Printed.{Lines, text_of}
+use Rattle.text.specs.Printed.{Lines, text_of, PlainNames}
 use Rattle.text.specs.declared.record.Contents.{Contents}
 use Rattle.text.specs.declared.record.Node.{Node}
-use Rattle.parts.specs.Parts.{ArePartsOf, largest, read_from}
+use Rattle.text.proofs.Filled.{plain_names}
+use Rattle.parts.specs.Parts.{ArePartsOf, IsTableOf, check_parts, largest, read_from}
 use Rattle.parts.specs.declared.stores.Parts.{Parts}
+use Rattle.parts.specs.declared.stores.Room.{Room}
 use Rattle.table.specs.Check.{check_says}
 use Rattle.table.specs.Whole.{circuit}
 use Rattle.table.specs.declared.mentions.Mentions.{Mentions}
@@ -109,6 +111,12 @@ module _ {F : Type 0} (R : Semiring F) (N : Notation F) (vs : Variables) (zeros 
 
 -- a file whose parts are accepted
 
+-- the names of its table are of plain bytes
+pub plain_table : (r : Room) (file : List ℕ) (p : Parts) (t : table_struct.Table) → ArePartsOf r file p → IsTableOf p t → PlainNames (listed t.variables)
+plain_table r file p t a of =
+    let P : Variables → Type 0 = λ vs. PlainNames (listed vs) in
+    subst P (sym of.variables_are) (plain_names (listed p.contents.variables) a.names_are)
+
 -- under what is known of the names
 pub says_of : (P : Type 0) (ls ms : Lines) (r : Result (String Global) Stop) → P → ms ≡ ls → Prints P ls r → Prints (Unit {0}) ms r
 says_of P ls ms (Ok s) p e h = λ _. h p ∙ ap text_of (sym e)
@@ -127,18 +135,15 @@ module _ (next : Variables → List Shape → List ℕ → Lines) (file : List �
       passed (λ f. Table (Text f)) (read_from largest file).answer rest p.contents (sym a.is_accepted)
       ∙ ap₂ (λ ns cs. checked p.contents.variables ns cs (drop p.contents.weights file)) (sym a.nodes_are) (sym a.children_are)
 
-  module _ (ns : List Node) (cs : List ℕ) (en : ns ≡ p.nodes.items) (ec : cs ≡ p.children.items) where
-    abbrev on_table : Mentions → Lines
-    on_table m = next p.contents.variables (shapes p.children.items p.nodes.items) (drop p.contents.weights file)
+  abbrev on_table : Mentions → Lines
+  on_table m = next p.contents.variables (shapes p.children.items p.nodes.items) (drop p.contents.weights file)
 
-    pub unchecked : (f : table.Fault) → check_says p.contents.variables ns cs ≡ Err f → unless_file_refused file next ≡ refusal (Table f) ∷ []
-    unchecked f e =
-        read_file ∙ stopped Table (check_says p.contents.variables p.nodes.items p.children.items) on_table f (sym e ∙ ap₂ (check_says p.contents.variables) en ec)
+  pub unchecked : (f : table.Fault) → check_parts p ≡ Err f → unless_file_refused file next ≡ refusal (Table f) ∷ []
+  unchecked f e = read_file ∙ stopped Table (check_parts p) on_table f (sym e)
 
-    pub checked_file : (m : Mentions) (t : table_struct.Table) (weights : List ℕ) → t.nodes.now ≡ ns → t.children.now ≡ cs → t.variables ≡ p.contents.variables → check_says p.contents.variables ns cs ≡ Ok m
-        → weights ≡ drop p.contents.weights file → unless_file_refused file next ≡ next t.variables (circuit t) weights
-    checked_file m t weights tn tc tv e w =
-        read_file
-        ∙ passed Table (check_says p.contents.variables p.nodes.items p.children.items) on_table m (sym e ∙ ap₂ (check_says p.contents.variables) en ec)
-        ∙ ap₂ (λ vs ss. next vs ss (drop p.contents.weights file)) (sym tv) (ap₂ shapes (sym (tc ∙ ec)) (sym (tn ∙ en)))
-        ∙ ap (next t.variables (circuit t)) (sym w)
+  pub checked_file : (t : table_struct.Table) → IsTableOf p t → (weights : List ℕ) → weights ≡ drop p.contents.weights file → unless_file_refused file next ≡ next t.variables (circuit t) weights
+  checked_file t of weights w =
+      read_file
+      ∙ passed Table (check_parts p) on_table t.mentions (sym of.is_accepted)
+      ∙ ap₂ (λ vs ss. next vs ss (drop p.contents.weights file)) (sym of.variables_are) (ap₂ shapes (sym of.children_are) (sym of.nodes_are))
+      ∙ ap (next t.variables (circuit t)) (sym w)

@@ -5,8 +5,6 @@ ghost use Rattle.text.specs.Printed.{text_of, PlainNames};
 ghost use Rattle.passes.specs.Holding.{selected};
 ghost use Rattle.report.specs.Report.{behind_tabs, names_on, selection_line, report_of};
 
-// Functions, and no `Display`: what they give is known only for names of ASCII. A figure goes through
-// `write`: with `{}` for a figure of any kind the proof did not close.
 use kinds::written::Written;
 use passes::holds::{Entry, Holds};
 use search::found::Found;
@@ -22,6 +20,7 @@ pub fn report_text<K: Written>(
 ) -> Result<String, AllocError>
     ensures { IfOk result (λ s. PlainNames (listed variables.now) → string_bytes s ≡ text_of (report_of K.notation (listed variables.now) bound found.now)) }
 {
+    // By `write`: with `{}` for a figure of any kind the proof did not close.
     let bound = bound.write(heap)?;
     let best = selection_text(heap, variables, found)?;
     format!(in heap; "B\t{bound}\n{best}")

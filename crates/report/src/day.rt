@@ -61,7 +61,7 @@ fn file_day<K: Written, O: BranchingOrder<K>>(
 {
     let room = Room::largest();
     let parts = Parts::read(heap, &room, file)??;
-    let table = Table::check(&parts.nodes, &parts.children, parts.contents.variables)?;
+    let table = parts.table()?;
     table_day(heap, order, sizes, &table, parts.weights(file), calls)
 }
 

@@ -55,7 +55,7 @@ fn file_report<K: Written, O: BranchingOrder<K>>(
 {
     let room = Room::largest();
     let parts = Parts::read(heap, &room, file)??;
-    let table = Table::check(&parts.nodes, &parts.children, parts.contents.variables)?;
+    let table = parts.table()?;
     table_report(heap, order, &table, parts.weights(file))
 }
 

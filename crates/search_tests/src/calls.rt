@@ -1,10 +1,10 @@
 //! The calls on plant K, with answers worked out by hand.
-use crate::steps::{MARK, Step, Study, table_of};
+use crate::steps::{MARK, Step, Study};
 use kinds::peak::Peak;
 use kinds::written::Written;
 use passes::holds::Holds;
 use plants::files::PLANT;
-use plants::stores::Stores;
+use plants::reading::{read, table_of};
 use search::number_order::NumberOrder;
 use search::strongest_lean::StrongestLean;
 use std::alloc::Global;
@@ -68,7 +68,7 @@ fn check_calls<K: Written + Clone>(
 ) -> Result<(), Fail> {
     let by_number = format!(in heap; "number order: {case}")?;
     let by_lean = format!(in heap; "strongest lean: {case}")?;
-    let plant = Stores::read(PLANT, heap)?;
+    let plant = read(PLANT, heap)?;
     let mut study = Study {
         table: table_of(&plant, &case)?,
         holds: Holds::new(),

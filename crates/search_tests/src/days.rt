@@ -1,12 +1,13 @@
 //! Working days on plant K.
 use crate::shown::{show_answer, show_figures, show_holds};
 use crate::spoken::call_of;
-use crate::steps::{MARK, Step, table_of};
+use crate::steps::{MARK, Step};
 use kinds::tally::Tally;
 use kinds::written::Written;
+use parts::stores::Parts;
 use passes::sheet::Sheet;
 use plants::files::PLANT;
-use plants::stores::Stores;
+use plants::reading::{read, table_of};
 use search::call::{Call, Reply};
 use search::day::work_day;
 use search::fault::Fault;
@@ -80,7 +81,7 @@ fn check_answers(
 // The day with so many places for answers.
 fn check_day<O: BranchingOrder<Tally>>(
     rt: &impl Abort,
-    plant: &Stores,
+    plant: &Parts,
     order: &O,
     end: (usize, &str, &str),
     heap: Global,
@@ -114,7 +115,7 @@ fn check_day<O: BranchingOrder<Tally>>(
 #[test]
 fn days(rt: HostRuntime) -> Result<(), Fail> {
     let heap = rt.alloc();
-    let plant = Stores::read(PLANT, heap)?;
+    let plant = read(PLANT, heap)?;
     for end in ENDS {
         check_day(
             &rt,

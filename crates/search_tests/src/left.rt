@@ -1,10 +1,11 @@
 //! What the calls leave in the work table.
 use crate::shown::show_figures;
-use crate::steps::{Held, MARK, Step, Study, holds_of, table_of};
+use crate::steps::{Held, MARK, Step, Study, holds_of};
 use kinds::tally::Tally;
 use kinds::written::Written;
+use parts::stores::Parts;
 use plants::files::PLANT;
-use plants::stores::Stores;
+use plants::reading::{read, table_of};
 use search::number_order::NumberOrder;
 use std::alloc::Global;
 use std::process::Abort;
@@ -36,7 +37,7 @@ const SHEET: [Tally; 4] = [MARK, MARK, Tally { count: 3 }, Tally { count: 7 }];
 // The work table of 25 places after a call.
 fn work_after(
     rt: &impl Abort,
-    plant: &Stores,
+    plant: &Parts,
     held: &[Held],
     step: Step,
     heap: Global,
@@ -54,7 +55,7 @@ fn work_after(
 #[test]
 fn left(rt: HostRuntime) -> Result<(), Fail> {
     let heap = rt.alloc();
-    let plant = Stores::read(PLANT, heap)?;
+    let plant = read(PLANT, heap)?;
     for (held, step, written) in WRITTEN {
         let work = work_after(&rt, &plant, *held, *step, heap)?;
         let shown = show_figures(work.as_slice(), heap)?;

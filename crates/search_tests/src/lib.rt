@@ -1,6 +1,4 @@
 //! The tests of the study.
-// The helpers take `rt`, `heap` and a case's name one by one: a struct of them would be generic in
-// two traits, and be made at each call.
 #![tactic(auto)]
 
 #[cfg(test)]

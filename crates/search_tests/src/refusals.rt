@@ -1,8 +1,9 @@
 //! Refused calls on plant K.
-use crate::steps::{Held, MARK, Study, holds_of, table_of};
+use crate::steps::{Held, MARK, Study, holds_of};
 use kinds::written::Written;
+use parts::stores::Parts;
 use plants::files::PLANT;
-use plants::stores::Stores;
+use plants::reading::{read, table_of};
 use search::number_order::NumberOrder;
 use std::alloc::Global;
 use std::fmt::Display;
@@ -157,7 +158,7 @@ const CASES: &[Case] = &[
 
 fn check_case(
     rt: &impl Abort,
-    plant: &Stores,
+    plant: &Parts,
     entry: Case,
     heap: Global,
     case: &impl Display,
@@ -178,7 +179,7 @@ fn check_case(
 #[test]
 fn refusals(rt: HostRuntime) -> Result<(), Fail> {
     let heap = rt.alloc();
-    let plant = Stores::read(PLANT, heap)?;
+    let plant = read(PLANT, heap)?;
     for (i, entry) in CASES.iter().enumerate() {
         let case = format!(in heap; "case {i}")?;
         check_case(&rt, &plant, *entry, heap, &case)?;

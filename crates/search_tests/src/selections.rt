@@ -1,13 +1,14 @@
 //! Select against all selections, one by one.
-use crate::steps::{Step, Study, table_of};
+use crate::steps::{Step, Study};
 use kinds::figure::{Figure, greater};
 use kinds::peak::Peak;
 use kinds::tally::Tally;
 use kinds::written::Written;
+use parts::stores::Parts;
 use passes::holds::{Entry, Holds};
 use passes::sheet::Sheet;
 use plants::files::{BLOCK_ROLES, BLOCKS, file};
-use plants::stores::Stores;
+use plants::reading::{read, table_of};
 use search::asking::{bound, figure, select};
 use search::found::Found;
 use search::number_order::NumberOrder;
@@ -32,7 +33,6 @@ const PART_IMPOSSIBLE: &str = "99 99 99 99 99 99 99 99 300 - 200 500 110 40 60 0
 
 // Holds go by a number below 81: a digit to base 3 for each option, 0 free, 1 on, 2 off. The lowest
 // digit is that of option 1.
-// It stands in two test crates: in a library it would want a contract longer than itself.
 fn holds_at(number: u64) -> Holds {
     let mut holds = Holds::new();
     let mut rest = number;
@@ -193,14 +193,14 @@ fn check_found<K: Written + PartialEq + Debug>(
 // Select on a sheet, for all 81 ways to hold.
 fn check_sheet<K: Written + Clone + PartialEq + Debug>(
     rt: &impl Abort,
-    stores: &Stores,
+    parts: &Parts,
     text: &str,
     heap: Global,
 ) -> Result<(), Fail> {
     let mut weights = sheet_of::<K>(text, heap)?;
     let mut work = vec![in heap; K::zero(); 297]?;
     let mut plant = Plant {
-        table: table_of(stores, &text)?,
+        table: table_of(parts, &text)?,
         sheet: Sheet {
             figures: weights.as_mut_slice(),
         },
@@ -222,11 +222,11 @@ fn check_sheet<K: Written + Clone + PartialEq + Debug>(
 fn selections(rt: HostRuntime) -> Result<(), Fail> {
     let heap = rt.alloc();
     let text = file(BLOCK_ROLES, BLOCKS, heap)?;
-    let stores = Stores::read(text.as_str(), heap)?;
-    check_sheet::<Tally>(&rt, &stores, TALLIES, heap)?;
-    check_sheet::<Tally>(&rt, &stores, PART_ZERO, heap)?;
-    check_sheet::<Peak>(&rt, &stores, PEAKS, heap)?;
-    check_sheet::<Peak>(&rt, &stores, PART_IMPOSSIBLE, heap)
+    let parts = read(text.as_str(), heap)?;
+    check_sheet::<Tally>(&rt, &parts, TALLIES, heap)?;
+    check_sheet::<Tally>(&rt, &parts, PART_ZERO, heap)?;
+    check_sheet::<Peak>(&rt, &parts, PEAKS, heap)?;
+    check_sheet::<Peak>(&rt, &parts, PART_IMPOSSIBLE, heap)
 }
 
 // By hand: the first block reaches 21 with both options off, 56 with 2 alone on, and 14 with 1 on;
@@ -247,9 +247,9 @@ const BY_LEAN: &[Step] = &[
 fn orders(rt: HostRuntime) -> Result<(), Fail> {
     let heap = rt.alloc();
     let text = file(BLOCK_ROLES, BLOCKS, heap)?;
-    let stores = Stores::read(text.as_str(), heap)?;
+    let parts = read(text.as_str(), heap)?;
     let mut study = Study {
-        table: table_of(&stores, &"orders")?,
+        table: table_of(&parts, &"orders")?,
         holds: Holds::new(),
         figures: sheet_of::<Tally>(TALLIES, heap)?,
         work: vec![in heap; Tally { count: 0 }; 297]?,

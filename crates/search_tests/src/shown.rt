@@ -1,5 +1,4 @@
 //! Holds, figures and answers as short texts.
-// Functions, and no `Display`: the types are other crates'.
 use kinds::written::Written;
 use passes::holds::{Entry, Holds};
 use search::call::Reply;

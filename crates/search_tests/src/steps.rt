@@ -5,7 +5,6 @@ use kinds::tally::Tally;
 use kinds::written::Written;
 use passes::holds::Holds;
 use passes::sheet::Sheet;
-use plants::stores::Stores;
 use search::call::Call;
 use search::day::ask;
 use search::order::BranchingOrder;
@@ -31,13 +30,6 @@ pub(crate) fn holds_of(held: &[Held]) -> Holds {
         holds.hold(*variable, *on);
     }
     holds
-}
-
-/// The table of these parts, which the check accepts.
-pub(crate) fn table_of<'a>(stores: &'a Stores, case: &impl Display) -> Result<Table<'a>, Fail> {
-    stores
-        .table()
-        .map_err(|_| Fail::new(format_args!("refused: {case}")))
 }
 
 // What the calls of a study may change, as texts: a test that fails shows them as the cases do.

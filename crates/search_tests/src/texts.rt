@@ -1,11 +1,12 @@
 //! Weight texts.
 use crate::shown::{show_fault, show_figures};
-use crate::steps::{MARK, table_of};
+use crate::steps::MARK;
 use kinds::peak::Peak;
 use kinds::written::Written;
+use parts::stores::Parts;
 use passes::sheet::Sheet;
 use plants::files::PLANT;
-use plants::stores::Stores;
+use plants::reading::{read, table_of};
 use search::weights::read_weights;
 use std::alloc::Global;
 use std::process::Abort;
@@ -84,7 +85,7 @@ const PEAKS: &[Case] = &[
 // A text on a sheet of these figures.
 fn check_text<K: Written>(
     rt: &impl Abort,
-    plant: &Stores,
+    plant: &Parts,
     figures: &mut [K],
     entry: Case,
     heap: Global,
@@ -105,7 +106,7 @@ fn check_text<K: Written>(
 #[test]
 fn texts(rt: HostRuntime) -> Result<(), Fail> {
     let heap = rt.alloc();
-    let plant = Stores::read(PLANT, heap)?;
+    let plant = read(PLANT, heap)?;
     for case in TALLIES {
         check_text(&rt, &plant, &mut [MARK; 6], *case, heap, "tallies")?;
     }

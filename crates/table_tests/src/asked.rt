@@ -1,7 +1,8 @@
 //! What a checked table says.
 use crate::large::large;
+use parts::stores::Parts;
 use plants::files::PLANT;
-use plants::stores::Stores;
+use plants::reading::{read, table_of};
 use std::process::Abort;
 use std::test::Fail;
 
@@ -78,14 +79,12 @@ const LARGE_KNOWN: &[Known] = &[
 // The table of these parts says so.
 fn check_asked(
     rt: &impl Abort,
-    stores: &Stores,
+    parts: &Parts,
     mentions: &[Mention],
     known: &[Known],
     case: &str,
 ) -> Result<(), Fail> {
-    let table = stores
-        .table()
-        .map_err(|_| Fail::new(format_args!("refused: {case}")))?;
+    let table = table_of(parts, &case)?;
     for (node, variable, due) in mentions {
         assert_eq!(rt;
             table.does_mention(*node, *variable),
@@ -105,9 +104,9 @@ fn check_asked(
 
 #[test]
 fn asked(rt: HostRuntime) -> Result<(), Fail> {
-    let plant = Stores::read(PLANT, rt.alloc())?;
+    let plant = read(PLANT, rt.alloc())?;
     check_asked(&rt, &plant, PLANT_MENTIONS, PLANT_KNOWN, "plant K")?;
     let text = large(rt.alloc())?;
-    let largest = Stores::read(text.as_str(), rt.alloc())?;
+    let largest = read(text.as_str(), rt.alloc())?;
     check_asked(&rt, &largest, LARGE_MENTIONS, LARGE_KNOWN, "the largest")
 }

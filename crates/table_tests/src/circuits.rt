@@ -1,5 +1,5 @@
 //! Circuits, sound and spoiled.
-use crate::stores::check_file;
+use crate::checking::check_file;
 use plants::files::{PLANT, file};
 use std::test::Fail;
 

@@ -1,5 +1,5 @@
 //! The largest table.
-use crate::stores::check_file;
+use crate::checking::check_file;
 use plants::files::file;
 use std::alloc::{AllocError, Global};
 use std::test::Fail;

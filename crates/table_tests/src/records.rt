@@ -1,7 +1,7 @@
 //! Records that no reader wrote.
-use crate::stores::{Due, check_answer};
+use crate::checking::{Due, check_answer};
 use plants::files::file;
-use plants::stores::Stores;
+use plants::reading::read;
 use std::test::Fail;
 use text::record::{Form, Node, Variables};
 
@@ -58,7 +58,7 @@ const CASES: &[(Form, u16, u16, &[u16], Due)] = &[
 #[test]
 fn records(rt: HostRuntime) -> Result<(), Fail> {
     let text = file("R", "T", rt.alloc())?;
-    let variables = Stores::read(text.as_str(), rt.alloc())?.variables;
+    let variables = read(text.as_str(), rt.alloc())?.contents.variables;
     for (form, first, count, children, due) in CASES {
         let node = Node {
             form: *form,
@@ -95,7 +95,7 @@ const COUNTS: &[(usize, u8, Due)] = &[
 #[test]
 fn counts(rt: HostRuntime) -> Result<(), Fail> {
     let text = file("E", "T", rt.alloc())?;
-    let option = Stores::read(text.as_str(), rt.alloc())?.variables.all[0];
+    let option = read(text.as_str(), rt.alloc())?.contents.variables.all[0];
     for (nodes, options, due) in COUNTS {
         assert!(rt; *options <= 64);
         let variables = Variables {

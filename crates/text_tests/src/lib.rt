@@ -1,6 +1,4 @@
 //! The tests of the table file's reader and of the kinds of figure.
-// `rt`, `heap` and a case's name go to each helper one by one: a struct of them would be generic in two
-// traits and made at each call.
 #![tactic(auto)]
 
 #[cfg(test)]

@@ -93,8 +93,6 @@ impl Stores {
     }
 
     /// A file meets this refusal or none, and leaves so many of these nodes and children.
-    // A list and how much of it: the cases share one list and leave a part of it, which each of them would
-    // have to cut off first.
     pub(crate) fn check_read(
         &mut self,
         rt: &impl Abort,

@@ -5,11 +5,10 @@
 mod story;
 mod words;
 
-use parts::read::MOST_READ;
+use parts::stores::MOST_READ;
 use std::io;
 use std::io::Read;
 
-// As in `quote`: no contract says what standard input gives, so a function for both would have none.
 fn main(rt: HostRuntime) -> io::Result<()> {
     let mut file = Vec::new(rt.alloc());
     rt.stdin().take(MOST_READ).read_to_end(&mut file)?;

@@ -1,6 +1,6 @@
 //! The task that is followed: two working days on one plant, each with its own branching order.
 ghost use Rattle.std.specs.Prelude.{◌≡◌, IfOk, string_bytes};
-ghost use Rattle.table.specs.Check.{check_says};
+ghost use Rattle.parts.specs.Parts.{check_parts};
 ghost use Rattle.workday.specs.Told.{refused_words, check_refusal, refusal_of, SaysRefusal};
 ghost use Rattle.workday.specs.Words.{options_words, chances_words};
 
@@ -23,8 +23,6 @@ use table::table::Table;
 use text::fields::NEWLINE;
 use text::record::Variables;
 
-// Matches, and no error for `?`: what is said of a refused weight text stands behind what is said of
-// the table, and for the other two an error with its conversions would be longer than they are.
 /// What the program prints for a file: what was done on its plant, or why the file is refused.
 pub(crate) fn tell(heap: Global, file: &[u8]) -> Result<String, AllocError>
     ensures { IfOk result (λ s. SaysRefusal (refusal_of file.now) (string_bytes s)) }
@@ -46,9 +44,9 @@ fn refused(heap: Global, part: &str, fault: Fault) -> Result<String, AllocError>
 
 /// What is printed for a file that was read.
 fn checked(heap: Global, parts: &Parts, weights: &[u8]) -> Result<String, AllocError>
-    ensures { IfOk result (λ s. SaysRefusal (check_refusal (check_says parts.now.contents.variables parts.now.nodes.items parts.now.children.items)) (string_bytes s)) }
+    ensures { IfOk result (λ s. SaysRefusal (check_refusal (check_parts parts.now)) (string_bytes s)) }
 {
-    match Table::check(&parts.nodes, &parts.children, parts.contents.variables) {
+    match parts.table() {
         Ok(table) => accepted(heap, &table, weights),
         Err(fault) => refused(heap, "plant file", Fault::Table(fault)),
     }

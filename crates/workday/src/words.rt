@@ -13,9 +13,6 @@ use text::refusal::Refusal;
 /// What a call is answered.
 pub(crate) type Answer = Result<Reply<Tally>, Fault>;
 
-// Words by a match, and no `Display`: the refusals are other crates' types, and their `Display` would
-// be the same match with a type around it.
-
 /// What the refusal of a line means.
 fn reason_meaning(reason: Reason) -> &'static str
     ensures { result.now ≡ reason_meaning reason }

@@ -1,5 +1,5 @@
-//! What a file is read into, and what the check makes of it.
-use plants::stores::Stores;
+//! What the check makes of a file, and of parts.
+use plants::reading::read;
 use std::alloc::Global;
 use std::fmt::Display;
 use std::process::Abort;
@@ -21,20 +21,19 @@ pub(crate) fn check_file(
     heap: Global,
     case: &impl Display,
 ) -> Result<(), Fail> {
-    let stores = Stores::read(file, heap)?;
+    let parts = read(file, heap)?;
     check_answer(
         rt,
-        stores.nodes.as_slice(),
-        stores.children.as_slice(),
-        &stores.variables,
+        parts.nodes.as_slice(),
+        parts.children.as_slice(),
+        &parts.contents.variables,
         due,
         case,
     );
     Ok(())
 }
 
-// Parts one by one: records that no reader wrote are in no `Stores`.
-/// The check of these parts answers this.
+/// The check of these parts, which may be no file's, answers this.
 pub(crate) fn check_answer(
     rt: &impl Abort,
     nodes: &[Node],
