@@ -1,14 +1,12 @@
 -- What the program prints.
-use Rattle.std.specs.Prelude.{◌≡◌, ℕ, ◌+◌, List, [], ◌∷◌, length, drop, Some, None, Ok, Err, IfOk, codes, decimal, string_bytes, Option, Result, String}
-use Rattle.std.specs.declared.alloc.AllocError.{AllocError}
-use Rattle.std.specs.declared.alloc.Global.{Global}
+use Rattle.std.specs.Prelude.{ℕ, ◌+◌, List, [], ◌∷◌, length, drop, Some, None, Ok, Err, codes, decimal, Option}
 use Rattle.kinds.specs.Semiring.{Semiring}
 use Rattle.kinds.specs.Texts.{Notation}
 use Rattle.kinds.specs.Tallies.{tallies, tally_notation}
 use Rattle.kinds.specs.Peaks.{peaks, peak_notation}
 use Rattle.search.specs.Orders.{Order as Picks, lowest, strongest}
 use Rattle.text.specs.Lines.{lines}
-use Rattle.text.specs.Printed.{Lines, text_of}
+use Rattle.text.specs.Printed.{Lines}
 use Rattle.report.specs.Answers.{day_report}
 use Rattle.calls.specs.Script.{Read, setup_says, calls_say}
 use Rattle.calls.specs.declared.setup.Kind.{Kind}
@@ -16,10 +14,6 @@ use Rattle.calls.specs.declared.setup.Kind.TheVariants.{Tally, Peak}
 use Rattle.calls.specs.declared.setup.Order.{Order}
 use Rattle.calls.specs.declared.setup.Order.TheVariants.{Number, Lean}
 use Rattle.calls.specs.declared.setup.Setup.{Setup}
-
--- the text that is answered is these lines; without memory nothing is said
-abbrev pub Prints : Lines → Result (String Global) AllocError → Type 0
-Prints ls answer = IfOk answer (λ s. string_bytes s ≡ text_of ls)
 
 -- E and the number of the line that has not its form
 abbrev pub malformed : ℕ → List (List ℕ)

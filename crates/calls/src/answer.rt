@@ -1,5 +1,6 @@
 //! What the program prints.
-ghost use Rattle.calls.specs.Calls.{calls_report, calls as calls_of, Prints};
+ghost use Rattle.calls.specs.Calls.{calls_report, calls as calls_of};
+ghost use Rattle.report.specs.Stops.{Spells};
 
 use crate::lines::setup_line;
 use crate::read::read_calls;
@@ -18,7 +19,7 @@ use text::fields::first_line;
 /// What is printed for a script, with a file behind it: the answer to each call, or the first
 /// line that has not its form, or the first refusal.
 pub fn calls(heap: Global, input: &[u8]) -> Result<String, AllocError>
-    ensures { Prints (calls_of input.now) result }
+    ensures { Spells (calls_of input.now) result }
 {
     let malformed = Malformed { line: 1 };
     let Some(line) = first_line(input) else {
@@ -58,7 +59,7 @@ fn set_up<K: Written, O: BranchingOrder<K>>(
     setup: Setup,
     text: &[u8],
 ) -> Result<String, AllocError>
-    ensures { Prints (calls_report K.ring K.notation (O.picks order.now) setup.sheet setup.work text.now) result }
+    ensures { Spells (calls_report K.ring K.notation (O.picks order.now) setup.sheet setup.work text.now) result }
 {
     let sizes = Sizes {
         sheet: usize::from(setup.sheet),

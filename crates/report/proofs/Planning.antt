@@ -24,14 +24,16 @@ use Rattle.table.specs.Circuit.{Shape}
 use Rattle.table.specs.Nodes.{roles_of, shapes}
 use Rattle.passes.specs.Holding.{Entries}
 use Rattle.passes.specs.Passes.{bound}
+use Rattle.passes.specs.Problem.{Problem, under_holds}
+use Rattle.search.specs.Calls.{bound_answer, select_answer}
 use Rattle.search.specs.Orders.{Order}
 use Rattle.search.specs.Select.{select}
-use Rattle.search.specs.Study.{unheld, Tests, first_fit, answered, bound_tests}
+use Rattle.search.specs.Study.{unheld, first_fit, answered, bound_tests}
 use Rattle.search.specs.Weights.{WeightReading, weights_say}
 use Rattle.search.specs.declared.fault.Fault.{Fault}
 use Rattle.search.specs.declared.found.Found.{Found}
 use Rattle.report.specs.Report.{refusal, report_of}
-use Rattle.report.specs.Plant.{unless_refused, unless_file_refused, unless_weights_refused, study_report}
+use Rattle.report.specs.Plant.{unless_refused, unless_file_refused, unless_weights_refused, unheld_problem, study_report}
 use Rattle.report.specs.Stops.{Prints}
 use Rattle.report.specs.declared.stop.Stop.{Stop}
 use Rattle.report.specs.declared.stop.Stop.TheVariants.{Refused, NoMemory}
@@ -68,32 +70,30 @@ module _ {F : Type 0} (R : Semiring F) (N : Notation F) (pick : Order F) (vs : V
   -- bound and select, with holds that are none
 
   module _ (size : ℕ) (sheet : List F) (h : Entries) (new : h ≡ unheld) where
-    abbrev tests : ℕ → Entries → Tests
-    tests n e = bound_tests (roles_of vs) ss (length sheet) n e
-
-    abbrev bound_of : Entries → F
-    bound_of e = bound R (roles_of vs) sheet ss e
-
-    abbrev found_of : Entries → Found F
-    found_of e = select R pick (roles_of vs) ss sheet e
+    abbrev asked : Entries → Problem F
+    asked e = under_holds (unheld_problem vs ss sheet) e
 
     abbrev lines : Unit {0} → Lines
-    lines _ = report_of N (listed vs) (bound_of unheld) (found_of unheld)
+    lines _ = report_of N (listed vs) (bound R (asked unheld)) (select R pick (asked unheld))
 
-    at_room : {A : Type 0} (x : A) (n : ℕ) → n ≡ size → answered (tests n h) x ≡ answered (tests size unheld) x
-    at_room x n same = ap₂ (λ k e. answered (tests k e) x) same new
+    at_room : {A : Type 0} (x : A) (n : ℕ) → n ≡ size → answered (bound_tests (asked h) n) x ≡ answered (bound_tests (asked unheld) size) x
+    at_room x n same = ap₂ (λ k e. answered (bound_tests (asked e) k) x) same new
 
-    pub unanswered : {A : Type 0} (x : A) (n : ℕ) → n ≡ size → (f : Fault) → Err f ≡ answered (tests n h) x → study_report R N pick size vs ss sheet ≡ refusal f ∷ []
+    pub unanswered : {A : Type 0} (x : A) (n : ℕ) → n ≡ size → (f : Fault) → Err f ≡ answered (bound_tests (asked h) n) x
+        → study_report R N pick size vs ss sheet ≡ refusal f ∷ []
     unanswered x n same f is =
-        stopped (λ e. e) (answered (tests size unheld) (tt {0})) lines f (refused_alike x (tt {0}) (first_fit (tests size unheld)) f (is ∙ at_room x n same))
+        let tests = bound_tests (asked unheld) size in
+        stopped (λ e. e) (answered tests (tt {0})) lines f (refused_alike x (tt {0}) (first_fit tests) f (is ∙ at_room x n same))
 
-    pub selected : (n : ℕ) → n ≡ size → (most : F) → Ok most ≡ answered (tests n h) (bound_of h)
-        → (k : ℕ) → k ≡ size → (found : Found F) → Ok found ≡ answered (tests k h) (found_of h) → study_report R N pick size vs ss sheet ≡ report_of N (listed vs) most found
+    pub selected : (n : ℕ) → n ≡ size → (most : F) → Ok most ≡ bound_answer R (asked h) n
+        → (k : ℕ) → k ≡ size → (found : Found F) → Ok found ≡ select_answer R (asked h) k pick
+        → study_report R N pick size vs ss sheet ≡ report_of N (listed vs) most found
     selected n same most is k kept found got =
-        let b = accepted_alike (bound_of h) (tt {0}) (first_fit (tests size unheld)) most (is ∙ at_room (bound_of h) n same) in
-        let s = accepted_alike (found_of h) (tt {0}) (first_fit (tests size unheld)) found (got ∙ at_room (found_of h) k kept) in
-        passed (λ e. e) (answered (tests size unheld) (tt {0})) lines (tt {0}) b.1
-        ∙ sym (ap₂ (report_of N (listed vs)) (b.0 ∙ ap bound_of new) (s.0 ∙ ap found_of new))
+        let tests = bound_tests (asked unheld) size in
+        let b = accepted_alike (bound R (asked h)) (tt {0}) (first_fit tests) most (is ∙ at_room (bound R (asked h)) n same) in
+        let s = accepted_alike (select R pick (asked h)) (tt {0}) (first_fit tests) found (got ∙ at_room (select R pick (asked h)) k kept) in
+        passed (λ e. e) (answered tests (tt {0})) lines (tt {0}) b.1
+        ∙ sym (ap₂ (report_of N (listed vs)) (b.0 ∙ ap (λ e. bound R (asked e)) new) (s.0 ∙ ap (λ e. select R pick (asked e)) new))
 
 -- the weight text, read into a sheet of so many zeros
 

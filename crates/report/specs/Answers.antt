@@ -12,7 +12,7 @@ use Rattle.table.specs.Check.{check_says}
 use Rattle.table.specs.Nodes.{roles_of, shapes}
 use Rattle.table.specs.declared.mentions.Mentions.{Mentions}
 use Rattle.parts.specs.Parts.{largest, read_from}
-use Rattle.search.specs.Day.{Book, Answer, Day, new, answers}
+use Rattle.search.specs.Day.{Book, Study, Answer, Day, new, answers}
 use Rattle.search.specs.Orders.{Order}
 use Rattle.search.specs.Weights.{weights_say}
 use Rattle.search.specs.declared.call.Call.{Call}
@@ -38,11 +38,15 @@ module _ {F : Type 0} (N : Notation F) (vs : List Variable) where
 
 -- for a sheet and a work table of so many figures, and these calls
 module _ {F : Type 0} (R : Semiring F) (N : Notation F) (pick : Order F) (sheet-size work-size : ℕ) (cs : List (Call F)) where
+  -- a study of these variables and this circuit
+  abbrev pub plant_study : Variables → List Shape → Study F
+  plant_study vs ss = record { roles = roles_of vs; circuit = ss; pick = pick; work_size = work-size }
+
   -- for a checked table, with its weight text: the answers of a new study
   abbrev pub table_day : Variables → List Shape → List ℕ → Lines
   table_day vs ss weights =
       unless_weights_refused R N vs (replicate sheet-size R.zero) weights (λ sheet.
-      answer_lines N (listed vs) (answers R pick (roles_of vs) ss work-size (new sheet) cs))
+      answer_lines N (listed vs) (answers R (plant_study vs ss) (new sheet) cs))
 
   -- for a file
   abbrev pub day_report : List ℕ → Lines
@@ -58,5 +62,5 @@ module _ {F : Type 0} (R : Semiring F) (N : Notation F) (pick : Order F) (sheet-
       let read = weights_say R N (roles_of vs) (replicate sheet-size R.zero) (drop c.weights file) in
       check_says vs ns children ≡ Ok m → read.answer ≡ Ok tt →
       (given : List (Answer F)) × (end : Book F)
-      × Day R pick (roles_of vs) (shapes children ns) work-size (new read.sheet) cs given end
+      × Day R (plant_study vs (shapes children ns)) (new read.sheet) cs given end
       × (day_report file ≡ answer_lines N (listed vs) given)

@@ -10,6 +10,7 @@ use Rattle.table.specs.Circuit.{Shape}
 use Rattle.table.specs.Nodes.{shapes, roles_of}
 use Rattle.table.specs.declared.fault.Fault.TheVariants.{Text}
 use Rattle.passes.specs.Passes.{bound}
+use Rattle.passes.specs.Problem.{Problem}
 use Rattle.search.specs.Orders.{Order}
 use Rattle.search.specs.Select.{select}
 use Rattle.search.specs.Study.{unheld, answered, bound_tests}
@@ -26,6 +27,10 @@ sheet_room = 128
 -- how many figures the work table has
 abbrev pub work_room : ℕ
 work_room = 4096
+
+-- what is asked where nothing is held
+abbrev pub unheld_problem : {F : Type 0} → Variables → List Shape → List F → Problem F
+unheld_problem vs ss sheet = record { roles = roles_of vs; circuit = ss; sheet = sheet; holds = unheld }
 
 -- what follows an answer; for a refusal, which a fault of this layer holds whole, its line alone
 abbrev pub unless_refused : {A E : Type 0} → (E → Fault) → Result A E → (A → Lines) → Lines
@@ -50,8 +55,9 @@ module _ {F : Type 0} (R : Semiring F) (N : Notation F) (pick : Order F) where
   -- for a sheet and a work table of so many figures: bound and select, where nothing is held
   abbrev pub study_report : (work-size : ℕ) → Variables → List Shape → List F → Lines
   study_report size vs ss sheet =
-      unless_refused (λ f. f) (answered (bound_tests (roles_of vs) ss (length sheet) size unheld) (tt {0})) (λ _.
-      report_of N (listed vs) (bound R (roles_of vs) sheet ss unheld) (select R pick (roles_of vs) ss sheet unheld))
+      let p = unheld_problem vs ss sheet in
+      unless_refused (λ f. f) (answered (bound_tests p size) (tt {0})) (λ _.
+      report_of N (listed vs) (bound R p) (select R pick p))
 
   -- for a checked table, with its weight text
   abbrev pub table_report : Variables → List Shape → List ℕ → Lines

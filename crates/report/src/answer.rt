@@ -1,9 +1,10 @@
 //! The lines of the bound and of the best selection.
 ghost use Rattle.std.specs.Prelude.{◌≡◌, ◌<◌, ◌&&◌, [], ◌∷◌, IfOk, string_bytes};
 ghost use Rattle.text.specs.Format.{is_option_role, listed};
-ghost use Rattle.text.specs.Printed.{text_of, PlainNames};
+ghost use Rattle.text.specs.Printed.{PlainNames};
 ghost use Rattle.passes.specs.Holding.{selected};
 ghost use Rattle.report.specs.Report.{behind_tabs, names_on, selection_line, report_of};
+ghost use Rattle.report.specs.Stops.{SpellsNames};
 
 use kinds::written::Written;
 use passes::holds::{Entry, Holds};
@@ -18,7 +19,7 @@ pub fn report_text<K: Written>(
     bound: K,
     found: &Found<K>,
 ) -> Result<String, AllocError>
-    ensures { IfOk result (λ s. PlainNames (listed variables.now) → string_bytes s ≡ text_of (report_of K.notation (listed variables.now) bound found.now)) }
+    ensures { SpellsNames variables.now (report_of K.notation (listed variables.now) bound found.now) result }
 {
     // By `write`: with `{}` for a figure of any kind the proof did not close.
     let bound = bound.write(heap)?;
@@ -32,7 +33,7 @@ pub(crate) fn selection_text<K: Written>(
     variables: &Variables,
     found: &Found<K>,
 ) -> Result<String, AllocError>
-    ensures { IfOk result (λ s. PlainNames (listed variables.now) → string_bytes s ≡ text_of (selection_line K.notation (listed variables.now) found.now ∷ [])) }
+    ensures { SpellsNames variables.now (selection_line K.notation (listed variables.now) found.now ∷ []) result }
 {
     let openings = found.openings;
     match found.best {
@@ -47,7 +48,8 @@ pub(crate) fn selection_text<K: Written>(
 
 /// The names of the options that are on, by rising number, each behind a tab.
 fn names_text(heap: Global, variables: &Variables, holds: &Holds) -> Result<String, AllocError>
-    ensures { IfOk result (λ s. PlainNames (listed variables.now) → string_bytes s ≡ behind_tabs (names_on holds.now.entries 1 (listed variables.now))) }
+    ensures { let names = names_on holds.now.entries 1 (listed variables.now) in
+        IfOk result (λ s. PlainNames (listed variables.now) → string_bytes s ≡ behind_tabs names) }
 {
     let mut text = String::new(heap);
     for (number, variable) in (1..).zip(variables.as_slice()) {

@@ -1,11 +1,11 @@
 //! What a program prints for a list of calls on a plant.
-ghost use Rattle.std.specs.Prelude.{◌≡◌, [], ◌∷◌, length, IfOk, string_bytes};
+ghost use Rattle.std.specs.Prelude.{◌≡◌, [], ◌∷◌, IfOk};
 ghost use Rattle.text.specs.Format.{listed};
-ghost use Rattle.text.specs.Printed.{text_of, PlainNames};
-ghost use Rattle.table.specs.Whole.{circuit, roles};
-ghost use Rattle.search.specs.Day.{new, answers};
+ghost use Rattle.text.specs.Printed.{PlainNames};
+ghost use Rattle.table.specs.Whole.{circuit};
+ghost use Rattle.search.specs.Day.{new, study_of, answers};
 ghost use Rattle.report.specs.Answers.{answer_line, answer_lines, table_day as table_day_of, day_report, MakesDay};
-ghost use Rattle.report.specs.Stops.{Prints};
+ghost use Rattle.report.specs.Stops.{Prints, Spells, SpellsNames};
 
 use crate::answer::selection_text;
 use crate::plant::{printed, zeros};
@@ -43,7 +43,8 @@ pub fn day_report<K: Written, O: BranchingOrder<K>>(
     file: &[u8],
     calls: &[Call<K>],
 ) -> Result<String, AllocError>
-    ensures text { IfOk result (λ s. string_bytes s ≡ text_of (day_report K.ring K.notation (O.picks order.now) sizes.sheet sizes.work calls.now file.now)) }
+    ensures text { let pick = O.picks order.now in
+        Spells (day_report K.ring K.notation pick sizes.sheet sizes.work calls.now file.now) result }
     ensures day { MakesDay K.ring K.notation (O.picks order.now) sizes.sheet sizes.work calls.now file.now }
 {
     printed(heap, file_day::<K, O>(heap, order, sizes, file, calls))
@@ -57,7 +58,8 @@ fn file_day<K: Written, O: BranchingOrder<K>>(
     file: &[u8],
     calls: &[Call<K>],
 ) -> Result<String, Stop>
-    ensures { Prints (Unit {0}) (day_report K.ring K.notation (O.picks order.now) sizes.sheet sizes.work calls.now file.now) result }
+    ensures { let pick = O.picks order.now in
+        Prints (Unit {0}) (day_report K.ring K.notation pick sizes.sheet sizes.work calls.now file.now) result }
 {
     let room = Room::largest();
     let parts = Parts::read(heap, &room, file)??;
@@ -74,7 +76,9 @@ fn table_day<K: Written, O: BranchingOrder<K>>(
     weights: &[u8],
     calls: &[Call<K>],
 ) -> Result<String, Stop>
-    ensures { Prints (PlainNames (listed table.now.variables)) (table_day_of K.ring K.notation (O.picks order.now) sizes.sheet sizes.work calls.now table.now.variables (circuit table.now) weights.now) result }
+    ensures { let vs = table.now.variables in
+        let day_of = table_day_of K.ring K.notation (O.picks order.now) sizes.sheet sizes.work calls.now in
+        Prints (PlainNames (listed vs)) (day_of vs (circuit table.now) weights.now) result }
 {
     let mut figures = zeros::<K>(heap, sizes.sheet)?;
     let mut work = zeros::<K>(heap, sizes.work)?;
@@ -95,7 +99,8 @@ fn day_answers<K: Figure, O: BranchingOrder<K>>(
     work: &mut [K],
     calls: &[Call<K>],
 ) -> Result<Vec<Answer<K>>, AllocError>
-    ensures { IfOk result (λ v. v.items ≡ answers K.ring (O.picks order.now) (roles table.now) (circuit table.now) (length work.old) (new sheet.old.figures.now) calls.now) }
+    ensures { let s = study_of table.now (O.picks order.now) work.old in
+        IfOk result (λ v. v.items ≡ answers K.ring s (new sheet.old.figures.now) calls.now) }
 {
     let mut answers = Vec::new(heap);
     answers.resize_with(calls.len(), || Ok(Reply::Done))?;
@@ -109,7 +114,7 @@ fn answers_text<K: Written>(
     variables: &Variables,
     answers: &[Answer<K>],
 ) -> Result<String, AllocError>
-    ensures { IfOk result (λ s. PlainNames (listed variables.now) → string_bytes s ≡ text_of (answer_lines K.notation (listed variables.now) answers.now)) }
+    ensures { SpellsNames variables.now (answer_lines K.notation (listed variables.now) answers.now) result }
 {
     let mut text = String::new(heap);
     for answer in answers {
@@ -125,7 +130,7 @@ fn answer_text<K: Written>(
     variables: &Variables,
     answer: Answer<K>,
 ) -> Result<String, AllocError>
-    ensures { IfOk result (λ s. PlainNames (listed variables.now) → string_bytes s ≡ text_of (answer_line K.notation (listed variables.now) answer ∷ [])) }
+    ensures { SpellsNames variables.now (answer_line K.notation (listed variables.now) answer ∷ []) result }
 {
     match answer {
         Ok(Reply::Done) => String::from_str(heap, "D\n"),

@@ -1,10 +1,10 @@
 //! What a program prints for a plant's file.
-ghost use Rattle.std.specs.Prelude.{◌≡◌, replicate, IfOk, string_bytes};
+ghost use Rattle.std.specs.Prelude.{◌≡◌, replicate, IfOk};
 ghost use Rattle.text.specs.Format.{listed};
-ghost use Rattle.text.specs.Printed.{Lines, text_of, PlainNames};
+ghost use Rattle.text.specs.Printed.{Lines, PlainNames};
 ghost use Rattle.table.specs.Whole.{circuit};
 ghost use Rattle.report.specs.Plant.{table_report as table_report_of, plant_report};
-ghost use Rattle.report.specs.Stops.{Prints};
+ghost use Rattle.report.specs.Stops.{Prints, Spells};
 
 use crate::answer::report_text;
 use crate::stop::Stop;
@@ -30,14 +30,14 @@ pub fn plant_report<K: Written, O: BranchingOrder<K>>(
     order: &O,
     file: &[u8],
 ) -> Result<String, AllocError>
-    ensures { IfOk result (λ s. string_bytes s ≡ text_of (plant_report K.ring K.notation (O.picks order.now) file.now)) }
+    ensures { Spells (plant_report K.ring K.notation (O.picks order.now) file.now) result }
 {
     printed(heap, file_report::<K, O>(heap, order, file))
 }
 
 /// The text that is to be printed, or the line of the refusal.
 pub(crate) fn printed(heap: Global, answer: Result<String, Stop>) -> Result<String, AllocError>
-    ensures { (ls : Lines) → Prints (Unit {0}) ls answer → IfOk result (λ s. string_bytes s ≡ text_of ls) }
+    ensures { (ls : Lines) → Prints (Unit {0}) ls answer → Spells ls result }
 {
     answer.or_else(|stop| match stop {
         Stop::Refused(fault) => RefusalLine(fault).to_string(heap),
@@ -66,7 +66,9 @@ fn table_report<K: Written, O: BranchingOrder<K>>(
     table: &Table,
     weights: &[u8],
 ) -> Result<String, Stop>
-    ensures { Prints (PlainNames (listed table.now.variables)) (table_report_of K.ring K.notation (O.picks order.now) table.now.variables (circuit table.now) weights.now) result }
+    ensures { let vs = table.now.variables in
+        let lines = table_report_of K.ring K.notation (O.picks order.now) vs (circuit table.now) weights.now in
+        Prints (PlainNames (listed vs)) lines result }
 {
     let mut figures = zeros::<K>(heap, LARGEST_SHEET)?;
     let mut work = zeros::<K>(heap, WORK_ROOM)?;
