@@ -11,8 +11,8 @@ use std::alloc::Global;
 use std::test::Fail;
 use table::fault::Fault;
 use table::table::Table;
+use text::fault::Refusal;
 use text::record::{Node, Variables};
-use text::refusal::Refusal;
 
 // Not `parts::stores::Parts`: of what the file says a test needs the variables alone.
 /// The parts of a table.

@@ -2,8 +2,7 @@
 ghost use Rattle.search.specs.Faults.{fault_number, fault_place, fault_layer};
 
 use table::fault::Fault as TableFault;
-use text::fault::Layer;
-use text::refusal::Refusal;
+use text::fault::{Layer, Refusal};
 
 /// Why a call is refused: by a layer below, or for what it is given.
 #[derive(Clone, Copy, Debug, PartialEq, Eq)]

@@ -7,22 +7,22 @@ use Rattle.text.specs.declared.fault.Reason.{Reason}
 use Rattle.text.specs.declared.fault.Reason.TheVariants as reason
 use Rattle.text.specs.declared.fault.Fault.{Fault}
 use Rattle.text.specs.declared.fault.Fault.TheVariants as fault
-use Rattle.text.specs.declared.kind.Kind.{Kind}
-use Rattle.text.specs.declared.kind.Kind.TheVariants as kind
+use Rattle.text.specs.declared.kind.LineKind.{LineKind}
+use Rattle.text.specs.declared.kind.LineKind.TheVariants as kind
 use Rattle.text.specs.declared.kind.Section.{Section}
 use Rattle.text.specs.declared.kind.Section.TheVariants as section
 use Rattle.text.specs.declared.progress.Progress.{Progress}
 use Rattle.text.specs.declared.record.Node.{Node}
 use Rattle.text.specs.declared.record.Contents.{Contents}
 use Rattle.text.specs.Lines.{printable, lines, fields}
-use Rattle.text.specs.Format.{Rooms, rooms_for, Sofar, Reading, header_says, variable_says, node_says, fitting, section_at, kind_of, all_read, is_complete, by_section, by_fields, line_says, accepted, refused, read_on, nothing_yet, file_says, overwritten}
+use Rattle.text.specs.Format.{Rooms, rooms_for, Sofar, Reading, header_says, variable_says, node_says, fitting, section_at, line_kind_of, all_read, is_complete, by_section, by_fields, line_says, accepted, refused, read_on, nothing_yet, file_says, overwritten}
 use Rattle.text.specs.Steps.{sofar, rooms_of, Taken, first_says}
 use Rattle.text.proofs.Cuts.{index_of, cut}
 use Rattle.text.proofs.Limits.{same_ok, same_err, provided_ok, then_ok, never}
 
 -- A line that is accepted ends at the next line's place.
 module _ (rooms : Rooms) (s : Sofar) (size : ℕ) (t : Sofar) where
-  section_place : (at : Section) (k : Kind) (fs : List (List ℕ)) → by_section rooms s size at k fs ≡ Ok t → t.place ≡ s.place + (size + 1)
+  section_place : (at : Section) (k : LineKind) (fs : List (List ℕ)) → by_section rooms s size at k fs ≡ Ok t → t.place ≡ s.place + (size + 1)
   section_place section.Header kind.Header fs e = let p = then_ok (header_says rooms fs) _ t e in sym (ap (λ x. x.place) (same_ok _ _ p.2))
   section_place section.Variables kind.Variable fs e = let p = then_ok (variable_says s.variables fs) _ t e in sym (ap (λ x. x.place) (same_ok _ _ p.2))
   section_place section.Nodes k fs e =
@@ -33,7 +33,7 @@ module _ (rooms : Rooms) (s : Sofar) (size : ℕ) (t : Sofar) where
 
   fields_place : (fs : List (List ℕ)) → by_fields rooms s size fs ≡ Ok t → t.place ≡ s.place + (size + 1)
   fields_place [] e = never reason.Line t e
-  fields_place (f ∷ fs) e = section_place (section_at s.header s.line (length s.variables)) (kind_of f) fs e
+  fields_place (f ∷ fs) e = section_place (section_at s.header s.line (length s.variables)) (line_kind_of f) fs e
 
 pub line_place : (rooms : Rooms) (s : Sofar) (l : List ℕ) (t : Sofar) → line_says rooms s l ≡ Ok t → t.place ≡ s.place + (length l + 1)
 unfolding line_says

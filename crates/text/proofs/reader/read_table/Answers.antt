@@ -21,7 +21,7 @@ returns-then-file-lt1 c =
     record { answer = e.answer_is; nodes = e.nodes_are; children = e.children_are; counts = tt; names = tt }
 
 pub loop-line-init : goal.loop-line-init
-loop-line-init c = record { going = begins c.args.file.now c.args.nodes.now c.args.children.now c.new-progress.result c.new-progress.ensures.begins c.new-progress.ensures.nodes.1 c.new-progress.ensures.children.1; nodes = refl; children = refl }
+loop-line-init c = record { going = begins c.args.file.now c.args.nodes.now c.args.children.now c.new-progress.result c.new-progress.ensures.begins c.new-progress.ensures.nodes c.new-progress.ensures.children; nodes = refl; children = refl }
 
 -- a line was taken
 next : (c : In_ok-map_err) → Going c.args.file.now c.args.nodes.now c.args.children.now c.take_next.new.self × (c.loop-line.progress.place < c.take_next.new.self.place)
@@ -61,8 +61,8 @@ returns-in_err-map_err c =
     let e = ends_inside file ns cs _ _ _ c.if-file-lt1.false c.if-file-gt65536.false (ends_line file ns cs s g due err.0 says) in
     let p = err_from_is_err_and c.from_residual.result c.from_residual.ensures.1 in
     let stores = c.take_next.ensures.stores in
-    let nodes_named = sym (stores.nodes ∙ c.loop-line.invariant.nodes ∙ c.new-progress.ensures.nodes.0) in
-    let children_named = sym (stores.children ∙ c.loop-line.invariant.children ∙ c.new-progress.ensures.children.0) in
+    let nodes_named = sym (stores.nodes ∙ c.loop-line.invariant.nodes ∙ c.new-progress.ensures.same_nodes) in
+    let children_named = sym (stores.children ∙ c.loop-line.invariant.children ∙ c.new-progress.ensures.same_children) in
     let nodes_are = told.1 ∙ e.nodes_are in
     let children_are = told.2 ∙ e.children_are in
     record {
@@ -83,8 +83,8 @@ returns c =
     let done = completeness file ns cs s g ∙ sym c.loop-line-test.ensures in
     let e = ends_inside file ns cs _ _ _ c.if-file-lt1.false c.if-file-gt65536.false (ends_accepted file ns cs s g done) in
     let answer = ap (λ vs. Ok (record { variables = vs; nodes = s.header.nodes; children = s.header.children; weights = s.place })) s.variables_are ∙ e.answer_is in
-    let nodes_named = sym (c.loop-line.invariant.nodes ∙ c.new-progress.ensures.nodes.0) in
-    let children_named = sym (c.loop-line.invariant.children ∙ c.new-progress.ensures.children.0) in
+    let nodes_named = sym (c.loop-line.invariant.nodes ∙ c.new-progress.ensures.same_nodes) in
+    let children_named = sym (c.loop-line.invariant.children ∙ c.new-progress.ensures.same_children) in
     record {
       answer = answer;
       nodes = search rules;
