@@ -12,7 +12,7 @@ use Rattle.text.specs.declared.kind.Section.{Section}
 use Rattle.text.specs.declared.kind.Section.TheVariants as section
 use Rattle.text.specs.declared.record.Contents.{Contents}
 use Rattle.text.specs.Lines.{printable, lines, fields}
-use Rattle.text.specs.Format.{Said, Rooms, Sofar, Reading, header_says, variable_says, node_says, fitting, section_at, line_kind_of, node_of, by_section, by_fields, line_says, is_complete, accepted, refused, read_on, nothing_yet, file_says, AsMany}
+use Rattle.text.specs.Format.{Said, Rooms, Sofar, Reading, header_says, variable_says, node_says, fitting, section_of, line_kind_of, node_of, by_section, by_fields, line_says, is_complete, accepted, refused, read_on, nothing_yet, file_says, AsMany}
 use Rattle.text.proofs.Limits.{never, same_ok, provided_ok, then_ok, header_limits}
 use Rattle.text.proofs.Runs.{read_complete, read_refused, read_taken}
 
@@ -36,7 +36,7 @@ nodes_due false false e = (refl, refl)
 
 -- An accepted line after those of s.
 module _ (rooms : Rooms) (s : Sofar) (size : ℕ) (t : Sofar) (counted : Counted s) (due : is_complete s ≡ false) where
-  node_left : section_at s.header s.line (length s.variables) ≡ section.Nodes → length s.nodes < s.header.nodes
+  node_left : section_of s ≡ section.Nodes → length s.nodes < s.header.nodes
   node_left is =
       let p = nodes_due (eqb s.line 1) (ltb (length s.variables) s.header.variables) is in
       elim (cases_lt (length s.nodes) s.header.nodes) [
@@ -51,7 +51,7 @@ module _ (rooms : Rooms) (s : Sofar) (size : ℕ) (t : Sofar) (counted : Counted
             )
       ]
 
-  section_counted : (at : Section) (k : LineKind) (fs : List (List ℕ)) → section_at s.header s.line (length s.variables) ≡ at → by_section rooms s size at k fs ≡ Ok t → Counted t
+  section_counted : (at : Section) (k : LineKind) (fs : List (List ℕ)) → section_of s ≡ at → by_section rooms s size at k fs ≡ Ok t → Counted t
   section_counted section.Header kind.Header fs is e =
       let p = then_ok (header_says rooms fs) _ t e in
       let limits = header_limits rooms fs p.0 p.1 in
@@ -92,7 +92,7 @@ module _ (rooms : Rooms) (s : Sofar) (size : ℕ) (t : Sofar) (counted : Counted
 
   fields_counted : (fs : List (List ℕ)) → by_fields rooms s size fs ≡ Ok t → Counted t
   fields_counted [] e = never reason.Line t e
-  fields_counted (f ∷ fs) e = section_counted (section_at s.header s.line (length s.variables)) (line_kind_of f) fs refl e
+  fields_counted (f ∷ fs) e = section_counted (section_of s) (line_kind_of f) fs refl e
 
 line_counted : (rooms : Rooms) (s : Sofar) (l : List ℕ) (t : Sofar) → Counted s → is_complete s ≡ false → line_says rooms s l ≡ Ok t → Counted t
 unfolding line_says

@@ -14,7 +14,7 @@ use Rattle.text.specs.declared.record.Contents.{Contents}
 use Rattle.text.specs.declared.record.Role.{Role}
 use Rattle.text.specs.declared.record.Variable.{Variable}
 use Rattle.text.specs.Lines.{printable, lines, fields}
-use Rattle.text.specs.Format.{Said, Rooms, Sofar, Reading, number_field, role_of, blank, listed, is_named, is_option_role, option_count, follows_rules, header_says, variable_says, node_says, fitting, section_at, line_kind_of, by_section, by_fields, line_says, is_complete, accepted, refused, read_on, nothing_yet, file_says, named_printable}
+use Rattle.text.specs.Format.{Said, Rooms, Sofar, Reading, number_field, role_of, blank, listed, is_named, is_option_role, option_count, follows_rules, header_says, variable_says, node_says, fitting, section_of, line_kind_of, by_section, by_fields, line_says, is_complete, accepted, refused, read_on, nothing_yet, file_says, named_printable}
 use Rattle.text.proofs.Limits.{never, same_ok, provided_ok, then_ok}
 use Rattle.text.proofs.Names.{spelled_name_of}
 
@@ -89,7 +89,7 @@ module _ (rooms : Rooms) (s : Sofar) (size : ℕ) (t : Sofar) (good : list_all n
 
   by_printable : (fs : List (List ℕ)) → list_all (list_all printable) fs ≡ true → by_fields rooms s size fs ≡ Ok t → list_all named_printable t.variables ≡ true
   by_printable [] h e = never reason.Line t e
-  by_printable (f ∷ fs) h e = section_printable (section_at s.header s.line (length s.variables)) (line_kind_of f) fs (and_parts (list_all printable f) (list_all (list_all printable) fs) h).1 e
+  by_printable (f ∷ fs) h e = section_printable (section_of s) (line_kind_of f) fs (and_parts (list_all printable f) (list_all (list_all printable) fs) h).1 e
 
 line_printable : (rooms : Rooms) (s : Sofar) (l : List ℕ) (t : Sofar) → list_all named_printable s.variables ≡ true → line_says rooms s l ≡ Ok t → list_all named_printable t.variables ≡ true
 unfolding line_says

@@ -15,9 +15,10 @@ use Rattle.text.specs.declared.progress.Progress.{Progress}
 use Rattle.text.specs.declared.record.Node.{Node}
 use Rattle.text.specs.declared.record.Contents.{Contents}
 use Rattle.text.specs.Lines.{printable, lines, fields}
-use Rattle.text.specs.Format.{Rooms, rooms_for, Sofar, Reading, header_says, variable_says, node_says, fitting, section_at, line_kind_of, all_read, is_complete, by_section, by_fields, line_says, accepted, refused, read_on, nothing_yet, file_says, overwritten}
+use Rattle.text.specs.Format.{Rooms, rooms_for, Sofar, Reading, header_says, variable_says, node_says, fitting, section_of, line_kind_of, is_complete, by_section, by_fields, line_says, accepted, refused, read_on, nothing_yet, file_says, overwritten}
 use Rattle.text.specs.Steps.{sofar, rooms_of, Taken, first_says}
 use Rattle.text.proofs.Cuts.{index_of, cut}
+use Rattle.text.proofs.Stores.{nodes_inside, children_inside}
 use Rattle.text.proofs.Limits.{same_ok, same_err, provided_ok, then_ok, never}
 
 -- A line that is accepted ends at the next line's place.
@@ -33,9 +34,9 @@ module _ (rooms : Rooms) (s : Sofar) (size : ℕ) (t : Sofar) where
 
   fields_place : (fs : List (List ℕ)) → by_fields rooms s size fs ≡ Ok t → t.place ≡ s.place + (size + 1)
   fields_place [] e = never reason.Line t e
-  fields_place (f ∷ fs) e = section_place (section_at s.header s.line (length s.variables)) (line_kind_of f) fs e
+  fields_place (f ∷ fs) e = section_place (section_of s) (line_kind_of f) fs e
 
-pub line_place : (rooms : Rooms) (s : Sofar) (l : List ℕ) (t : Sofar) → line_says rooms s l ≡ Ok t → t.place ≡ s.place + (length l + 1)
+line_place : (rooms : Rooms) (s : Sofar) (l : List ℕ) (t : Sofar) → line_says rooms s l ≡ Ok t → t.place ≡ s.place + (length l + 1)
 unfolding line_says
 line_place rooms s l t e = fields_place rooms s (length l) t (fields l) (provided_ok (list_all printable l) reason.Line _ t e).1
 
@@ -114,21 +115,12 @@ module _ (file : List ℕ) (ns : List Node) (cs : List ℕ) where
     pub rooms_same : rooms_of s ≡ rooms_for ns cs
     rooms_same = λ i. record { nodes = g.nodes_long i; children = g.children_long i }
 
-    nodes_inside : s.nodes ≤ length s.node_store.now
-    nodes_inside = omega (arith, s.nodes_within, s.room_nodes)
-
-    children_inside : s.children ≤ length s.child_store.now
-    children_inside = omega (arith, s.children_within, s.room_children)
-
-    pub completeness : is_complete (sofar s) ≡ all_read s.header s.line (length (sofar s).variables) s.nodes
-    completeness = ap (all_read s.header s.line (length (sofar s).variables)) (length-take-le s.nodes s.node_store.now nodes_inside)
-
     ends : (told : Reading) (answer : Result Contents Fault) → told.nodes ≡ take s.nodes s.node_store.now → told.children ≡ take s.children s.child_store.now → answer ≡ told.answer
         → Ends told answer s.node_store.now s.child_store.now
     ends told answer n c a = record {
       answer_is = a;
-      nodes_are = overwritten_front s.nodes s.node_store.now ns nodes_inside g.nodes_kept ∙ ap (λ xs. overwritten xs ns) (sym n);
-      children_are = overwritten_front s.children s.child_store.now cs children_inside g.children_kept ∙ ap (λ xs. overwritten xs cs) (sym c);
+      nodes_are = overwritten_front s.nodes s.node_store.now ns (nodes_inside s) g.nodes_kept ∙ ap (λ xs. overwritten xs ns) (sym n);
+      children_are = overwritten_front s.children s.child_store.now cs (children_inside s) g.children_kept ∙ ap (λ xs. overwritten xs cs) (sym c);
     }
 
     pub ends_accepted : is_complete (sofar s) ≡ true → Ends (read_on (rooms_for ns cs) nothing_yet (lines file)) (accepted (sofar s)).answer s.node_store.now s.child_store.now

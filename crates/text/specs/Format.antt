@@ -179,13 +179,13 @@ pub record Sofar : Type 0 where
 abbrev pub nothing_yet : Sofar
 nothing_yet = record { header = header_of 0 0 0; variables = []; nodes = []; children = []; line = 1; place = 0 }
 
--- the section that the next line belongs to, after so many variables
-abbrev pub section_at : Header → (line variables : ℕ) → Section
-section_at h line variables = if line == 1 then section.Header else (if nat_lt variables h.variables then section.Variables else section.Nodes)
+-- the section that the next line belongs to
+abbrev pub section_of : Sofar → Section
+section_of s = if s.line == 1 then section.Header else (if nat_lt (length s.variables) s.header.variables then section.Variables else section.Nodes)
 
--- whether every line that is due has been read, by the header and the number of the next line, of variables and of nodes
-abbrev pub all_read : Header → (line variables nodes : ℕ) → Bool
-all_read h line variables nodes = nat_lt 1 line && nat_le h.variables variables && nat_le h.nodes nodes
+-- whether every line that is due has been read
+abbrev pub is_complete : Sofar → Bool
+is_complete s = nat_lt 1 s.line && nat_le s.header.variables (length s.variables) && nat_le s.header.nodes (length s.nodes)
 
 -- whether a node after `nodes` others, which have `used` children, may have `count` more: the children do not pass
 -- the header's count, and reach it at the last node
@@ -227,7 +227,7 @@ by_section rooms s size at k fs = Err reason.Line
 -- the first field says what the line is
 abbrev pub by_fields : Rooms → Sofar → ℕ → List (List ℕ) → Said Sofar
 by_fields rooms s size [] = Err reason.Line
-by_fields rooms s size (f ∷ fs) = by_section rooms s size (section_at s.header s.line (length s.variables)) (line_kind_of f) fs
+by_fields rooms s size (f ∷ fs) = by_section rooms s size (section_of s) (line_kind_of f) fs
 
 -- what a line says, after the lines before it
 unfoldable pub line_says : Rooms → Sofar → List ℕ → Said Sofar
@@ -249,10 +249,6 @@ accepted s = record {
 
 abbrev pub refused : Sofar → Reason → Reading
 refused s r = record { nodes = s.nodes; children = s.children; answer = Err (fault.Line r s.line) }
-
--- the same, of what the lines so far have said
-abbrev pub is_complete : Sofar → Bool
-is_complete s = all_read s.header s.line (length s.variables) (length s.nodes)
 
 -- what the lines from here on make of the file
 unfoldable pub read_on : Rooms → Sofar → List (List ℕ) → Reading

@@ -38,7 +38,7 @@ pub struct Progress<'n, 'c> {
 
 impl<'n, 'c> Progress<'n, 'c> {
     ghost use Rattle.text.specs.Lines.{printable};
-    ghost use Rattle.text.specs.Format.{section_at, all_read, fitting, nothing_yet};
+    ghost use Rattle.text.specs.Format.{section_of, is_complete, fitting, nothing_yet};
     ghost use Rattle.text.specs.Steps.{sofar, says_in, says, next_says, Steps};
     ghost use Rattle.text.specs.declared.kind.LineKind.TheVariants as kind;
     ghost use Rattle.text.specs.declared.kind.Section.TheVariants as section;
@@ -65,7 +65,7 @@ impl<'n, 'c> Progress<'n, 'c> {
 
     /// The section that the line that is due belongs to.
     fn section(&self) -> Section
-        ensures { result ≡ section_at self.now.header self.now.line (length (listed self.now.variables)) }
+        ensures { result ≡ section_of (sofar self.now) }
     {
         if self.line == 1 {
             Section::Header
@@ -77,8 +77,9 @@ impl<'n, 'c> Progress<'n, 'c> {
     }
 
     /// Whether every line that is due has been read.
+    #[tactic(auto, using(crate::proofs::Stores::nodes_read))]
     pub(crate) fn is_complete(&self) -> bool
-        ensures { result ≡ all_read self.now.header self.now.line (length (listed self.now.variables)) self.now.nodes }
+        ensures { result ≡ is_complete (sofar self.now) }
     {
         self.line > 1
             && self.variables.as_slice().len() >= self.header.variables as usize
@@ -147,8 +148,9 @@ impl<'n, 'c> Progress<'n, 'c> {
     }
 
     /// One line: the section and the line's kind together decide what it says.
+    #[tactic(auto, using(crate::proofs::Stores::nodes_read))]
     fn take_line(&mut self, line: &[u8]) -> Result<(), Reason>
-        requires due { all_read self.old.header self.old.line (length (listed self.old.variables)) self.old.nodes ≡ false }
+        requires due { is_complete (sofar self.old) ≡ false }
         requires room { self.old.place + (length line.now + 1) ≤ 65536 }
         requires printable { list_all printable line.now ≡ true }
         ensures { Steps (says line.now) self.old self.new result }
@@ -163,7 +165,7 @@ impl<'n, 'c> Progress<'n, 'c> {
 
     /// The next line of a file, which has to have one more.
     pub(crate) fn take_next(&mut self, file: &[u8]) -> Result<(), Reason>
-        requires due { all_read self.old.header self.old.line (length (listed self.old.variables)) self.old.nodes ≡ false }
+        requires due { is_complete (sofar self.old) ≡ false }
         requires within { self.old.place ≤ length file.now }
         requires short { length file.now ≤ 65536 }
         ensures { Steps (next_says file.now) self.old self.new result }

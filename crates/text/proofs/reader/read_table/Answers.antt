@@ -6,7 +6,7 @@ use Rattle.text.specs.Lines.{lines}
 use Rattle.text.specs.Format.{rooms_for}
 use Rattle.text.specs.Steps.{sofar, first_says, Taken}
 use Rattle.text.proofs.Limits.{before_ok, before_err}
-use Rattle.text.proofs.Runs.{Going, begins, completeness, ends_accepted, ends_line, ends_inside, ends_outside, goes_on, rooms_same, next_place}
+use Rattle.text.proofs.Runs.{Going, begins, ends_accepted, ends_line, ends_inside, ends_outside, goes_on, rooms_same, next_place}
 use Rattle.text.proofs.Printable.{file_printable}
 use Rattle.text.proofs.Counts.{file_counted}
 use Rattle.text.proofs.reader.read_table.Goals as goal
@@ -32,7 +32,7 @@ next c =
     let s = c.loop-line.progress in
     let t = c.take_next.new.self in
     let g = c.loop-line.invariant.going in
-    let due = completeness file ns cs s g ∙ sym c.loop-line-test.ensures in
+    let due = sym c.loop-line-test.ensures in
     let ok = before_ok c.take_next.result c.map_err.result _ c.map_err.ensures.cases _ c.in_ok-map_err.was in
     let step = rw ok at c.take_next.ensures.moves in
     let taken = subst (λ rooms. Taken s t (first_says rooms (sofar s) (lines (drop s.place file)))) (rooms_same file ns cs s g) step in
@@ -53,7 +53,7 @@ returns-in_err-map_err c =
     let cs = c.args.children.now in
     let s = c.loop-line.progress in
     let g = c.loop-line.invariant.going in
-    let due = completeness file ns cs s g ∙ sym c.loop-line-test.ensures in
+    let due = sym c.loop-line-test.ensures in
     let err = before_err c.take_next.result c.map_err.result _ c.map_err.ensures.cases _ c.in_err-map_err.was in
     let why : c.in_err-map_err.field-0.0 ≡ fault.Line err.0 c.loop-line.progress.line = let l = err.2 in search rules in
     let told = rw err.1 at c.take_next.ensures.moves in
@@ -80,7 +80,7 @@ returns c =
     let cs = c.args.children.now in
     let s = c.loop-line.progress in
     let g = c.loop-line.invariant.going in
-    let done = completeness file ns cs s g ∙ sym c.loop-line-test.ensures in
+    let done = sym c.loop-line-test.ensures in
     let e = ends_inside file ns cs _ _ _ c.if-file-lt1.false c.if-file-gt65536.false (ends_accepted file ns cs s g done) in
     let answer = ap (λ vs. Ok (record { variables = vs; nodes = s.header.nodes; children = s.header.children; weights = s.place })) s.variables_are ∙ e.answer_is in
     let nodes_named = sym (c.loop-line.invariant.nodes ∙ c.new-progress.ensures.same_nodes) in
