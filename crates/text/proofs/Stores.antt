@@ -44,10 +44,10 @@ module _ (p : Progress) where
   pub children_inside : p.children ≤ length p.child_store.now
   children_inside = omega (arith, p.children_within, p.room_children)
 
-  pub nodes_read : length (take p.nodes p.node_store.now) ≡ p.nodes
+  nodes_read : length (take p.nodes p.node_store.now) ≡ p.nodes
   nodes_read = length-take-le p.nodes p.node_store.now nodes_inside
 
-  pub children_read : length (take p.children p.child_store.now) ≡ p.children
+  children_read : length (take p.children p.child_store.now) ≡ p.children
   children_read = length-take-le p.children p.child_store.now children_inside
 
 -- A node line of `size` bytes with the entry e, after the progress p.

@@ -77,7 +77,6 @@ impl<'n, 'c> Progress<'n, 'c> {
     }
 
     /// Whether every line that is due has been read.
-    #[tactic(auto, using(crate::proofs::Stores::nodes_read))]
     pub(crate) fn is_complete(&self) -> bool
         ensures { result ≡ is_complete (sofar self.now) }
     {
@@ -148,7 +147,6 @@ impl<'n, 'c> Progress<'n, 'c> {
     }
 
     /// One line: the section and the line's kind together decide what it says.
-    #[tactic(auto, using(crate::proofs::Stores::nodes_read))]
     fn take_line(&mut self, line: &[u8]) -> Result<(), Reason>
         requires due { is_complete (sofar self.old) ≡ false }
         requires room { self.old.place + (length line.now + 1) ≤ 65536 }
