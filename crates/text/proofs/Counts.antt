@@ -5,7 +5,7 @@ use Rattle.std.proofs.lemmas.Bool.{and_parts, and_from, or_cases, leb-true, ltb-
 use Rattle.text.specs.declared.kind.Section.TheVariants as section
 use Rattle.text.specs.declared.record.Contents.{Contents}
 use Rattle.text.specs.Lines.{fields}
-use Rattle.text.specs.Format.{Rooms, Sofar, section_of, node_of, is_complete, accepted, file_says, AsMany}
+use Rattle.text.specs.Format.{Rooms, Sofar, section_of, node_of, is_complete, file_says, AsMany}
 use Rattle.text.proofs.Limits.{header_limits}
 use Rattle.text.proofs.Runs.{Accepts, header, variable, node, line_accepts, file_holds}
 

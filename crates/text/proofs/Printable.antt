@@ -1,5 +1,5 @@
 -- The names of an accepted file are printable.
-use Rattle.std.proofs.Common.{◌≡◌, ℕ, ◌+◌, ◌≤◌, Bool, true, false, cond, not, ◌&&◌, eqb, leb, List, [], ◌∷◌, ◌++◌, length, min, take, drop, replicate, Ok, sym, refl, ap, ap₂, ◌∙◌, subst, arith}
+use Rattle.std.proofs.Common.{◌≡◌, ℕ, ◌+◌, ◌≤◌, Bool, true, false, cond, not, ◌&&◌, eqb, leb, List, [], ◌∷◌, ◌++◌, length, min, take, drop, replicate, Ok, sym, refl, ap, ap₂, ◌∙◌, subst}
 use Rattle.std.specs.List.{onto_first, list_all}
 use Rattle.std.specs.Option.{ok_or}
 use Rattle.std.proofs.lemmas.Bool.{and_parts, and_from, leb-true}
@@ -10,7 +10,7 @@ use Rattle.text.specs.declared.record.Contents.{Contents}
 use Rattle.text.specs.declared.record.Role.{Role}
 use Rattle.text.specs.declared.record.Variable.{Variable}
 use Rattle.text.specs.Lines.{printable, fields}
-use Rattle.text.specs.Format.{Rooms, Sofar, number_field, role_of, blank, variables_of, listed, is_named, is_option_role, option_count, follows_rules, variable_says, line_says, accepted, file_says, named_printable}
+use Rattle.text.specs.Format.{Rooms, Sofar, number_field, role_of, blank, variables_of, listed, is_named, is_option_role, option_count, follows_rules, variable_says, line_says, file_says, named_printable}
 use Rattle.text.proofs.Limits.{never, same_ok, provided_ok, then_ok}
 use Rattle.text.proofs.Names.{spelled_name_of}
 use Rattle.text.proofs.Runs.{Accepts, header, variable, node, line_accepts, file_holds}
