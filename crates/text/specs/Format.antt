@@ -205,23 +205,24 @@ line_kind_of f = kind.Other
 
 -- one line on, which has `size` bytes before its byte 10
 abbrev pub with_header : Sofar → ℕ → Header → Sofar
-with_header s size h = record { header = h; variables = s.variables; nodes = s.nodes; children = s.children; line = s.line + 1; place = s.place + (size + 1) }
+with_header s size h = record s { header = h; line = s.line + 1; place = s.place + (size + 1) }
 
 abbrev pub with_variable : Sofar → ℕ → Variable → Sofar
-with_variable s size v = record { header = s.header; variables = s.variables ++ v ∷ []; nodes = s.nodes; children = s.children; line = s.line + 1; place = s.place + (size + 1) }
+with_variable s size v = record s { variables = s.variables ++ v ∷ []; line = s.line + 1; place = s.place + (size + 1) }
 
 -- a node's record says where its children begin among all children
 abbrev pub node_of : Sofar → NodeEntry → Node
 node_of s e = record { form = e.form; first = length s.children; count = length e.children }
 
 abbrev pub with_node : Sofar → ℕ → NodeEntry → Sofar
-with_node s size e = record { header = s.header; variables = s.variables; nodes = s.nodes ++ node_of s e ∷ []; children = s.children ++ e.children; line = s.line + 1; place = s.place + (size + 1) }
+with_node s size e = record s { nodes = s.nodes ++ node_of s e ∷ []; children = s.children ++ e.children; line = s.line + 1; place = s.place + (size + 1) }
 
 -- what a line of `size` bytes says, by the section that it belongs to and its kind
 abbrev pub by_section : Rooms → Sofar → (size : ℕ) → Section → LineKind → List (List ℕ) → Said Sofar
 by_section rooms s size section.Header kind.Header fs = and_then (header_says rooms fs) (λ h. Ok (with_header s size h))
 by_section rooms s size section.Variables kind.Variable fs = and_then (variable_says s.variables fs) (λ v. Ok (with_variable s size v))
-by_section rooms s size section.Nodes k fs = and_then (node_says k fs) (λ e. provided (fitting s.header (length s.nodes) (length s.children) (length e.children)) reason.Children (Ok (with_node s size e)))
+by_section rooms s size section.Nodes k fs =
+    and_then (node_says k fs) (λ e. provided (fitting s.header (length s.nodes) (length s.children) (length e.children)) reason.Children (Ok (with_node s size e)))
 by_section rooms s size at k fs = Err reason.Line
 
 -- the first field says what the line is
