@@ -22,7 +22,7 @@ use std::io;
 use std::io::Read;
 use std::time::Instant;
 use table::table::Table;
-use text::refusal::RefusalLine;
+use text::fault::RefusalLine;
 
 /// How many options are held in the runs.
 const HELD: &[u16] = &[0, 10, 20];

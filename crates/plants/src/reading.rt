@@ -7,7 +7,7 @@ use std::alloc::Global;
 use std::fmt::Display;
 use std::test::Fail;
 use table::table::Table;
-use text::refusal::Refusal;
+use text::fault::Refusal;
 
 /// A file's parts.
 pub fn read(file: &str, heap: Global) -> Result<Parts, Fail>

@@ -21,8 +21,8 @@ use search::order::BranchingOrder;
 use search::weights::read_weights;
 use std::alloc::{AllocError, Global};
 use table::table::Table;
+use text::fault::RefusalLine;
 use text::record::Variables;
-use text::refusal::RefusalLine;
 
 /// What a call is answered.
 type Answer<K> = Result<Reply<K>, Fault>;

@@ -18,7 +18,7 @@ use search::order::BranchingOrder;
 use search::weights::read_weights;
 use std::alloc::{AllocError, Global};
 use table::table::Table;
-use text::refusal::RefusalLine;
+use text::fault::RefusalLine;
 
 /// How many figures the work table has.
 const WORK_ROOM: usize = 4096;

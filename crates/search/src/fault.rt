@@ -4,8 +4,7 @@ ghost use Rattle.table.specs.declared.fault.Fault.TheVariants as table_fault;
 ghost use Rattle.search.specs.Faults.{fault_number, fault_place, fault_layer};
 
 use table::fault::Fault as TableFault;
-use text::fault::{Fault as TextFault, Layer};
-use text::refusal::Refusal;
+use text::fault::{Fault as TextFault, Layer, Refusal};
 
 /// Why a call is refused: by a layer below, or for what it is given.
 #[derive(Clone, Copy, Debug, PartialEq, Eq)]

@@ -5,8 +5,7 @@ use search::call::Reply;
 use search::fault::Fault;
 use search::found::Found;
 use std::alloc::{AllocError, Global};
-use text::fault::Layer;
-use text::refusal::Refusal;
+use text::fault::{Layer, Refusal};
 
 /// What is held, by rising number: `+1-3` for 1 on and 3 off.
 pub(crate) fn show_holds(holds: &Holds, heap: Global) -> Result<String, AllocError> {

@@ -1,8 +1,7 @@
 //! Why a table is refused.
 ghost use Rattle.table.specs.Faults.{fault_number, fault_place, fault_layer};
 
-use text::fault::{Fault as TextFault, Layer};
-use text::refusal::Refusal;
+use text::fault::{Fault as TextFault, Layer, Refusal};
 
 /// What is wrong with a node.
 #[derive(Clone, Copy, Debug, PartialEq, Eq)]

@@ -6,9 +6,8 @@ use std::process::Abort;
 use std::test::Fail;
 use table::check::check as check_table;
 use table::mentions::Mentions;
-use text::fault::Layer;
+use text::fault::{Layer, Refusal};
 use text::record::{Node, Variables};
-use text::refusal::Refusal;
 
 /// What the check should answer: the first nodes' sets of variables, or a refusal's number and place.
 pub type Due<'a> = Result<&'a [u64], (u8, usize)>;

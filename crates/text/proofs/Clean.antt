@@ -4,7 +4,7 @@ use Rattle.std.specs.List.{list_all}
 use Rattle.std.proofs.Math.Bool.{and-false}
 use Rattle.std.proofs.lemmas.Bool.{cond-true, cond-false, cases_Bool, both_ways, eqb-true}
 use Rattle.std.proofs.lemmas.List.{length-take-le}
-use Rattle.text.specs.Lines.{printable, onto, lines, BeginsWithLine, first_printable}
+use Rattle.text.specs.Lines.{printable, onto, lines, BeginsWithPrintable, first_printable}
 
 -- the byte that ends a line may not stand in one
 no_newline : (x : ℕ) → printable x ≡ true → eqb x 10 ≡ false
@@ -33,7 +33,7 @@ clean_all xs zero h clean = refl
 clean_all [] (suc i) h clean = absurd (omega arith)
 clean_all (x ∷ xs) (suc i) h clean = ap₂ ◌&&◌ (clean 0 (omega arith)) (clean_all xs i (omega arith) (λ k l. clean (suc k) (omega arith)))
 
-pub clean_line : (xs : List ℕ) (i : ℕ) → i < length xs → CleanTo xs i → eqb (get_or xs i 0) 10 ≡ true → BeginsWithLine xs (take i xs) × (list_all printable (take i xs) ≡ true)
+pub clean_line : (xs : List ℕ) (i : ℕ) → i < length xs → CleanTo xs i → eqb (get_or xs i 0) 10 ≡ true → BeginsWithPrintable xs (take i xs)
 clean_line xs i h clean ends =
     let long = length-take-le i xs (omega arith) in
     let behind : suc i ≡ length (take i xs) + 1 = omega (arith, long) in

@@ -1,5 +1,5 @@
 -- Lines by the place of the next byte 10, and how many fields a line has.
-use Rattle.std.proofs.Common.{◌≡◌, ℕ, suc, ◌+◌, ◌<◌, ◌≤◌, true, false, cond, eqb, ◌⊎◌, inl, inr, List, [], ◌∷◌, length, take, drop, Some, None, Option, unwrap_or, sym, refl, ap, ◌∙◌, ap₂, add-one, arith}
+use Rattle.std.proofs.Common.{◌≡◌, ℕ, suc, ◌+◌, ◌<◌, ◌≤◌, true, false, cond, eqb, ◌⊎◌, inl, inr, List, [], ◌∷◌, length, take, drop, Some, None, Option, unwrap_or, sym, refl, ap, ◌∙◌, subst, add-one, arith}
 use Rattle.std.specs.List.{AllWithin, HoldsAt}
 use Rattle.std.specs.Option.{MatchOption}
 use Rattle.std.proofs.lemmas.Iterator.{index_from_first}
@@ -35,33 +35,28 @@ no_line (x ∷ xs) h =
 abbrev pub IsFirst : ℕ → List ℕ → Option ℕ → Type 0
 IsFirst b xs r = MatchOption r (AllWithin (λ x. x ≡ b → ⊥) xs 0 (length xs)) (λ i. (i < length xs) × HoldsAt (λ x. x ≡ b) xs i × AllWithin (λ x. x ≡ b → ⊥) xs 0 i)
 
-pub index_at : (b : ℕ) (xs : List ℕ) (r : Option ℕ) → IsFirst b xs r → index_of b xs ≡ unwrap_or r (length xs)
+index_at : (b : ℕ) (xs : List ℕ) (r : Option ℕ) → IsFirst b xs r → index_of b xs ≡ unwrap_or r (length xs)
 index_at b xs r h =
     index_from_first (index_of b) (λ x. x ≡ b) (λ x. x ≡ b → ⊥) refl (λ x ys e. cond-true (eqb x b) 0 _ (eq-eqb x b e))
     (λ x ys n. cond-false (eqb x b) 0 _ (ne_eqb x b n) ∙ sym (add-one (index_of b ys))) xs r h
 
--- a text is cut at its first byte 10, if it has one
+-- a text with a byte 10 is cut at its first
+cut_at : (xs : List ℕ) → index_of 10 xs < length xs → BeginsWithLine xs (take (index_of 10 xs) xs)
+cut_at xs h =
+    let long = length-take-le (index_of 10 xs) xs (omega arith) in
+    let behind : suc (index_of 10 xs) ≡ length (take (index_of 10 xs) xs) + 1 = omega (arith, long) in
+    record { within = omega (arith, h, long); lines_are = first_line xs h ∙ ap (λ k. take (index_of 10 xs) xs ∷ lines (drop k xs)) behind }
+
 pub begins : (xs : List ℕ) (r : Option ℕ) (i : ℕ) → IsFirst 10 xs r → r ≡ Some i → BeginsWithLine xs (take i xs)
 begins xs r i h e =
     let first : IsFirst 10 xs (Some i) = rw e at h in
-    let is = index_at 10 xs (Some i) first in
-    let fits : i ≤ length xs = omega (arith, first.0) in
-    let long = length-take-le i xs fits in
-    let behind : suc (index_of 10 xs) ≡ length (take i xs) + 1 = omega (arith, is, long) in
-    record {
-      within = omega (arith, first.0, long);
-      lines_are = first_line xs (omega (arith, is, first.0)) ∙ ap₂ (λ n k. take n xs ∷ lines (drop k xs)) is behind;
-    }
+    let is : index_of 10 xs ≡ i = index_at 10 xs (Some i) first in
+    subst (λ k. BeginsWithLine xs (take k xs)) is (cut_at xs (omega (arith, is, first.0)))
 
 -- each text begins with a line or has none
 pub cut : (xs : List ℕ) → BeginsWithLine xs (take (index_of 10 xs) xs) ⊎ (lines xs ≡ [])
 cut xs = elim (cases_lt (index_of 10 xs) (length xs)) [
-  | inl h ↦ (
-      let low : index_of 10 xs ≤ length xs = omega arith in
-      let long = length-take-le (index_of 10 xs) xs low in
-      let behind : suc (index_of 10 xs) ≡ length (take (index_of 10 xs) xs) + 1 = omega (arith, long) in
-      inl (record { within = omega (arith, h, long); lines_are = first_line xs h ∙ ap (λ k. take (index_of 10 xs) xs ∷ lines (drop k xs)) behind })
-      )
+  | inl h ↦ inl (cut_at xs h)
   | inr h ↦ inr (no_line xs h)
 ]
 

@@ -6,6 +6,7 @@ use Rattle.std.proofs.lemmas.List.{length-take}
 use Rattle.std.proofs.lemmas.Bool.{and_parts, or_cases, eqb-true, leb-true}
 use Rattle.text.specs.Lines.{printable}
 use Rattle.text.specs.Format.{listed, spelled, named_printable}
+use Rattle.text.specs.Printed.{PlainNames}
 use Rattle.text.specs.declared.record.Variable.{Variable}
 use Rattle.text.specs.declared.record.Variables.{Variables}
 
@@ -17,7 +18,7 @@ printable_ascii : (bs : List ℕ) → list_all printable bs ≡ true → IsAscii
 printable_ascii [] h = IsAscii-nil
 printable_ascii (b ∷ bs) h = let q = and_parts (printable b) (list_all printable bs) h in IsAscii-cons b bs (printable_low b q.0) (printable_ascii bs q.1)
 
-pub plain_names : (vs : List Variable) → list_all named_printable vs ≡ true → (k : ℕ) (d : Variable) → k < length vs → IsAscii (spelled (get_or vs k d).name)
+pub plain_names : (vs : List Variable) → list_all named_printable vs ≡ true → PlainNames vs
 plain_names [] h k d l = absurd (omega arith)
 plain_names (v ∷ vs) h zero d l = printable_ascii (spelled v.name) (and_parts (named_printable v) (list_all named_printable vs) h).0
 plain_names (v ∷ vs) h (suc k) d l = plain_names vs (and_parts (named_printable v) (list_all named_printable vs) h).1 k d (omega arith)

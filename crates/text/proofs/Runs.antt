@@ -1,43 +1,67 @@
 -- The reader line by line.
 use Rattle.std.specs.List.{list_all}
-use Rattle.std.proofs.Common.{◌≡◌, ℕ, ◌+◌, ◌-◌, ◌<◌, ◌≤◌, true, false, ◌&&◌, leb, List, [], ◌∷◌, ◌++◌, length, take, drop, Ok, Err, Result, inl, inr, sym, refl, ap, ◌∙◌, ap₂, subst, arith}
+use Rattle.std.proofs.Common.{◌≡◌, ℕ, ◌+◌, ◌-◌, ◌<◌, ◌≤◌, true, false, cond, ◌&&◌, leb, List, [], ◌∷◌, ◌++◌, length, take, drop, Ok, Err, Result, inl, inr, sym, refl, ap, ◌∙◌, ap₂, subst, arith}
 use Rattle.std.proofs.lemmas.List.{length-take-le, take-append-drop, drop-drop, length-drop}
-use Rattle.std.proofs.lemmas.Bool.{cond-true, cond-false, and_from, le-leb}
+use Rattle.std.proofs.lemmas.Bool.{cases_Bool, cond-true, cond-false, and_from, le-leb}
 use Rattle.text.specs.declared.fault.Reason.{Reason}
 use Rattle.text.specs.declared.fault.Reason.TheVariants as reason
 use Rattle.text.specs.declared.fault.Fault.{Fault}
 use Rattle.text.specs.declared.fault.Fault.TheVariants as fault
-use Rattle.text.specs.declared.kind.Kind.{Kind}
-use Rattle.text.specs.declared.kind.Kind.TheVariants as kind
+use Rattle.text.specs.declared.kind.LineKind.{LineKind}
+use Rattle.text.specs.declared.kind.LineKind.TheVariants as kind
 use Rattle.text.specs.declared.kind.Section.{Section}
 use Rattle.text.specs.declared.kind.Section.TheVariants as section
 use Rattle.text.specs.declared.progress.Progress.{Progress}
 use Rattle.text.specs.declared.record.Node.{Node}
+use Rattle.text.specs.declared.record.Header.{Header}
+use Rattle.text.specs.declared.record.Variable.{Variable}
 use Rattle.text.specs.declared.record.Contents.{Contents}
 use Rattle.text.specs.Lines.{printable, lines, fields}
-use Rattle.text.specs.Format.{Rooms, rooms_for, Sofar, Reading, header_says, variable_says, node_says, fitting, section_at, kind_of, all_read, is_complete, by_section, by_fields, line_says, accepted, refused, read_on, nothing_yet, file_says, overwritten}
+use Rattle.text.specs.Format.{Said, Rooms, rooms_for, Sofar, Reading, NodeEntry, with_header, with_variable, with_node, header_says, variable_says, node_says, fitting, section_of, line_kind_of, is_complete, by_section, by_fields, line_says, accepted, refused, read_on, nothing_yet, file_says, overwritten}
 use Rattle.text.specs.Steps.{sofar, rooms_of, Taken, first_says}
 use Rattle.text.proofs.Cuts.{index_of, cut}
+use Rattle.text.proofs.Stores.{nodes_inside, children_inside}
 use Rattle.text.proofs.Limits.{same_ok, same_err, provided_ok, then_ok, never}
 
--- A line that is accepted ends at the next line's place.
+-- A line that is accepted, by its fields behind the letter: what it says, and what has been said with it.
+pub data Accepts (rooms : Rooms) (s : Sofar) (size : ℕ) (fs : List (List ℕ)) : Sofar → Type 0 where
+  header : (h : Header) → section_of s ≡ section.Header → header_says rooms fs ≡ Ok h → Accepts rooms s size fs (with_header s size h)
+  variable : (v : Variable) → variable_says s.variables fs ≡ Ok v → Accepts rooms s size fs (with_variable s size v)
+  node : (k : LineKind) (e : NodeEntry) → section_of s ≡ section.Nodes → node_says k fs ≡ Ok e
+      → fitting s.header (length s.nodes) (length s.children) (length e.children) ≡ true → Accepts rooms s size fs (with_node s size e)
+
 module _ (rooms : Rooms) (s : Sofar) (size : ℕ) (t : Sofar) where
-  section_place : (at : Section) (k : Kind) (fs : List (List ℕ)) → by_section rooms s size at k fs ≡ Ok t → t.place ≡ s.place + (size + 1)
-  section_place section.Header kind.Header fs e = let p = then_ok (header_says rooms fs) _ t e in sym (ap (λ x. x.place) (same_ok _ _ p.2))
-  section_place section.Variables kind.Variable fs e = let p = then_ok (variable_says s.variables fs) _ t e in sym (ap (λ x. x.place) (same_ok _ _ p.2))
-  section_place section.Nodes k fs e =
+  section_accepts : (at : Section) (k : LineKind) (fs : List (List ℕ)) → section_of s ≡ at → by_section rooms s size at k fs ≡ Ok t → Accepts rooms s size fs t
+  section_accepts section.Header kind.Header fs is e =
+      let p = then_ok (header_says rooms fs) _ t e in
+      subst (Accepts rooms s size fs) (same_ok _ _ p.2) (header p.0 is p.1)
+  section_accepts section.Variables kind.Variable fs is e =
+      let p = then_ok (variable_says s.variables fs) _ t e in
+      subst (Accepts rooms s size fs) (same_ok _ _ p.2) (variable p.0 p.1)
+  section_accepts section.Nodes k fs is e =
       let p = then_ok (node_says k fs) _ t e in
       let q = provided_ok (fitting s.header (length s.nodes) (length s.children) (length p.0.children)) reason.Children _ t p.2 in
-      sym (ap (λ x. x.place) (same_ok _ _ q.1))
-  section_place at k fs e = never reason.Line t e
+      subst (Accepts rooms s size fs) (same_ok _ _ q.1) (node k p.0 is p.1 q.0)
+  section_accepts at k fs is e = never reason.Line t e
 
-  fields_place : (fs : List (List ℕ)) → by_fields rooms s size fs ≡ Ok t → t.place ≡ s.place + (size + 1)
-  fields_place [] e = never reason.Line t e
-  fields_place (f ∷ fs) e = section_place (section_at s.header s.line (length s.variables)) (kind_of f) fs e
+  fields_accept : (fs : List (List ℕ)) → by_fields rooms s size fs ≡ Ok t → Accepts rooms s size (drop 1 fs) t
+  fields_accept [] e = never reason.Line t e
+  fields_accept (f ∷ fs) e = section_accepts (section_of s) (line_kind_of f) fs refl e
 
-pub line_place : (rooms : Rooms) (s : Sofar) (l : List ℕ) (t : Sofar) → line_says rooms s l ≡ Ok t → t.place ≡ s.place + (length l + 1)
+pub line_accepts : (rooms : Rooms) (s : Sofar) (l : List ℕ) (t : Sofar) → line_says rooms s l ≡ Ok t → (list_all printable l ≡ true) × Accepts rooms s (length l) (drop 1 (fields l)) t
 unfolding line_says
-line_place rooms s l t e = fields_place rooms s (length l) t (fields l) (provided_ok (list_all printable l) reason.Line _ t e).1
+line_accepts rooms s l t e =
+    let p = provided_ok (list_all printable l) reason.Line _ t e in
+    (p.0, fields_accept rooms s (length l) t (fields l) p.1)
+
+-- a line that is accepted ends at the next line's place
+place_on : (rooms : Rooms) (s : Sofar) (size : ℕ) (fs : List (List ℕ)) (t : Sofar) → Accepts rooms s size fs t → t.place ≡ s.place + (size + 1)
+place_on rooms s size fs _ (header h is says) = refl
+place_on rooms s size fs _ (variable v says) = refl
+place_on rooms s size fs _ (node k e is says fits) = refl
+
+line_place : (rooms : Rooms) (s : Sofar) (l : List ℕ) (t : Sofar) → line_says rooms s l ≡ Ok t → t.place ≡ s.place + (length l + 1)
+line_place rooms s l t e = place_on rooms s (length l) (drop 1 (fields l)) t (line_accepts rooms s l t e).1
 
 -- One step of the reading.
 module _ (rooms : Rooms) (s : Sofar) where
@@ -56,6 +80,36 @@ module _ (rooms : Rooms) (s : Sofar) where
     unfolding read_on
     read_taken [] t e = never reason.Line t e
     read_taken (l ∷ ls) t e = cond-false (is_complete s) _ _ due ∙ ap (λ said. elim said [ Ok x ↦ read_on rooms x ls | Err x ↦ refused s x ]) e
+
+-- What holds of the lines so far, and still holds with each line that is accepted, holds of all lines of an accepted file.
+module _ (rooms : Rooms) (Holds : Sofar → Type 0) (on : (s t : Sofar) (l : List ℕ) → is_complete s ≡ false → Holds s → line_says rooms s l ≡ Ok t → Holds t) where
+  module _ (c : Contents) (P : Reading → Type 0) (ends : (s : Sofar) → is_complete s ≡ true → Holds s → (accepted s).answer ≡ Ok c → P (accepted s)) where
+    abbrev Want : Reading → Type 0
+    Want told = told.answer ≡ Ok c → P told
+
+    not_refused : (told : Reading) (f : Fault) → told.answer ≡ Err f → Want told
+    not_refused told f e is = let z : ◌≡◌ {A = ℕ} 0 1 = cc in absurd (omega arith)
+
+    read_holds : (s : Sofar) (ls : List (List ℕ)) → Holds s → Want (read_on rooms s ls)
+    read_holds s [] h = elim (cases_Bool (is_complete s)) [
+      | inl done ↦ subst Want (sym (read_complete rooms s [] done)) (ends s done h)
+      | inr due ↦ subst Want (sym (read_refused rooms s due [] reason.Line refl)) (not_refused (refused s reason.Line) _ refl)
+    ]
+    read_holds s (l ∷ ls) h = elim (cases_Bool (is_complete s)) [
+      | inl done ↦ subst Want (sym (read_complete rooms s (l ∷ ls) done)) (ends s done h)
+      | inr due ↦ by due (line_says rooms s l) refl (λ t k. read_holds t ls k)
+    ]
+      where
+        by : is_complete s ≡ false → (said : Said Sofar) → line_says rooms s l ≡ said → ((t : Sofar) → Holds t → Want (read_on rooms t ls)) → Want (read_on rooms s (l ∷ ls))
+        by due (Ok t) is later = subst Want (sym (read_taken rooms s due (l ∷ ls) t is)) (later t (on s t l due h is))
+        by due (Err r) is later = subst Want (sym (read_refused rooms s due (l ∷ ls) r is)) (not_refused (refused s r) _ refl)
+
+    pub file_holds : (file : List ℕ) → Holds nothing_yet → Want (file_says rooms file)
+    unfolding file_says
+    file_holds file h = elim (leb 1 (length file) && leb (length file) 65536) as (λ t. Want (cond t (read_on rooms nothing_yet (lines file)) (record { nodes = []; children = []; answer = Err fault.Length }))) [
+      | true ↦ read_holds nothing_yet (lines file) h
+      | false ↦ not_refused (record { nodes = []; children = []; answer = Err fault.Length }) _ refl
+    ]
 
 -- the next line ends where the lines behind it begin
 pub next_place : (rooms : Rooms) (s t : Sofar) (file : List ℕ) → s.place ≤ length file → first_says rooms s (lines (drop s.place file)) ≡ Ok t
@@ -114,21 +168,12 @@ module _ (file : List ℕ) (ns : List Node) (cs : List ℕ) where
     pub rooms_same : rooms_of s ≡ rooms_for ns cs
     rooms_same = λ i. record { nodes = g.nodes_long i; children = g.children_long i }
 
-    nodes_inside : s.nodes ≤ length s.node_store.now
-    nodes_inside = omega (arith, s.nodes_within, s.room_nodes)
-
-    children_inside : s.children ≤ length s.child_store.now
-    children_inside = omega (arith, s.children_within, s.room_children)
-
-    pub completeness : is_complete (sofar s) ≡ all_read s.header s.line (length (sofar s).variables) s.nodes
-    completeness = ap (all_read s.header s.line (length (sofar s).variables)) (length-take-le s.nodes s.node_store.now nodes_inside)
-
     ends : (told : Reading) (answer : Result Contents Fault) → told.nodes ≡ take s.nodes s.node_store.now → told.children ≡ take s.children s.child_store.now → answer ≡ told.answer
         → Ends told answer s.node_store.now s.child_store.now
     ends told answer n c a = record {
       answer_is = a;
-      nodes_are = overwritten_front s.nodes s.node_store.now ns nodes_inside g.nodes_kept ∙ ap (λ xs. overwritten xs ns) (sym n);
-      children_are = overwritten_front s.children s.child_store.now cs children_inside g.children_kept ∙ ap (λ xs. overwritten xs cs) (sym c);
+      nodes_are = overwritten_front s.nodes s.node_store.now ns (nodes_inside s) g.nodes_kept ∙ ap (λ xs. overwritten xs ns) (sym n);
+      children_are = overwritten_front s.children s.child_store.now cs (children_inside s) g.children_kept ∙ ap (λ xs. overwritten xs cs) (sym c);
     }
 
     pub ends_accepted : is_complete (sofar s) ≡ true → Ends (read_on (rooms_for ns cs) nothing_yet (lines file)) (accepted (sofar s)).answer s.node_store.now s.child_store.now

@@ -4,30 +4,30 @@ use Rattle.std.proofs.Common.{◌≡◌, ℕ, ◌≤◌, true, false, List, [], 
 use Rattle.std.proofs.lemmas.Bool.{cond-true, cond-false}
 use Rattle.text.specs.declared.fault.Reason.{Reason}
 use Rattle.text.specs.declared.fault.Reason.TheVariants as reason
-use Rattle.text.specs.declared.kind.Kind.{Kind}
-use Rattle.text.specs.declared.kind.Kind.TheVariants as kind
+use Rattle.text.specs.declared.kind.LineKind.{LineKind}
+use Rattle.text.specs.declared.kind.LineKind.TheVariants as kind
 use Rattle.text.specs.declared.kind.Section.{Section}
 use Rattle.text.specs.declared.kind.Section.TheVariants as section
 use Rattle.text.specs.declared.progress.Progress.{Progress}
 use Rattle.text.specs.Lines.{printable, first_printable, fields}
-use Rattle.text.specs.Format.{Said, Rooms, Sofar, listed, section_at, kind_of, by_section, by_fields, line_says}
+use Rattle.text.specs.Format.{Said, Rooms, Sofar, section_of, line_kind_of, by_section, by_fields, line_says}
 use Rattle.text.specs.Steps.{sofar, rooms_of, says_in, says, first_says, Steps, Taken, HasStoresOf}
 use Rattle.text.proofs.Cuts.{some_field}
 
-by_first : (rooms : Rooms) (s : Sofar) (size : ℕ) (fs : List (List ℕ)) → 1 ≤ length fs → by_fields rooms s size fs ≡ by_section rooms s size (section_at s.header s.line (length s.variables)) (kind_of (get_or fs 0 [])) (drop 1 fs)
+by_first : (rooms : Rooms) (s : Sofar) (size : ℕ) (fs : List (List ℕ)) → 1 ≤ length fs → by_fields rooms s size fs ≡ by_section rooms s size (section_of s) (line_kind_of (get_or fs 0 [])) (drop 1 fs)
 by_first rooms s size [] h = absurd (omega arith)
 by_first rooms s size (f ∷ fs) h = refl
 
-not_header : (rooms : Rooms) (s : Sofar) (size : ℕ) (k : Kind) (fs : List (List ℕ)) → (k ≡ kind.Header → ⊥) → by_section rooms s size section.Header k fs ≡ Err reason.Line
+not_header : (rooms : Rooms) (s : Sofar) (size : ℕ) (k : LineKind) (fs : List (List ℕ)) → (k ≡ kind.Header → ⊥) → by_section rooms s size section.Header k fs ≡ Err reason.Line
 not_header rooms s size kind.Header fs h = absurd (h refl)
 not_header rooms s size k fs h = refl
 
-not_variable : (rooms : Rooms) (s : Sofar) (size : ℕ) (k : Kind) (fs : List (List ℕ)) → (k ≡ kind.Variable → ⊥) → by_section rooms s size section.Variables k fs ≡ Err reason.Line
+not_variable : (rooms : Rooms) (s : Sofar) (size : ℕ) (k : LineKind) (fs : List (List ℕ)) → (k ≡ kind.Variable → ⊥) → by_section rooms s size section.Variables k fs ≡ Err reason.Line
 not_variable rooms s size kind.Variable fs h = absurd (h refl)
 not_variable rooms s size k fs h = refl
 
 -- nothing was done
-pub same_stores : (s : Progress) → HasStoresOf s s
+same_stores : (s : Progress) → HasStoresOf s s
 same_stores s = record { nodes = refl; children = refl; nodes_long = refl; children_long = refl }
 
 pub refused_by : {U : Type 0} (said : Progress → Said Sofar) (s : Progress) (r : Reason) → said s ≡ Err r → Steps said s s {U = U} (Err r)
@@ -40,11 +40,11 @@ said_by said says s u (Err x) e h = record { moves = (sym e ∙ h.moves.0, h.mov
 
 -- A line l after the progress s.
 module _ (s : Progress) (l : List ℕ) where
-  pub unprintable : list_all printable l ≡ false → says l s ≡ Err reason.Line
+  unprintable : list_all printable l ≡ false → says l s ≡ Err reason.Line
   unfolding line_says
   unprintable h = cond-false (list_all printable l) _ _ h
 
-  module _ (clean : list_all printable l ≡ true) (t : Section) (at : t ≡ section_at s.header s.line (length (listed s.variables))) (k : Kind) (is : k ≡ kind_of (get_or (fields l) 0 [])) where
+  module _ (clean : list_all printable l ≡ true) (t : Section) (at : t ≡ section_of (sofar s)) (k : LineKind) (is : k ≡ line_kind_of (get_or (fields l) 0 [])) where
     says_by : says l s ≡ says_in t k l s
     unfolding line_says
     says_by =

@@ -30,19 +30,30 @@ module _ {A : Type 0} (at : ℕ) (xs store : List A) (fits : at + length xs ≤ 
   front_length : length (take at store ++ xs) ≡ at + length xs
   front_length = let inside : at ≤ length store = omega arith in length-append (take at store) xs ∙ ap (λ n. n + length xs) (length-take-le at store inside)
 
-  pub take_written : (n : ℕ) → n ≡ at + length xs → take n (written_at at xs store) ≡ take at store ++ xs
+  take_written : (n : ℕ) → n ≡ at + length xs → take n (written_at at xs store) ≡ take at store ++ xs
   take_written n e = take_at (take at store ++ xs) (drop (at + length xs) store) n (front_length ∙ sym e)
 
-  pub drop_written : (n : ℕ) → n ≡ at + length xs → drop n (written_at at xs store) ≡ drop n store
+  drop_written : (n : ℕ) → n ≡ at + length xs → drop n (written_at at xs store) ≡ drop n store
   drop_written n e = drop_at (take at store ++ xs) (drop (at + length xs) store) n (front_length ∙ sym e) ∙ ap (λ k. drop k store) (sym e)
+
+-- The stores hold what was read.
+module _ (p : Progress) where
+  pub nodes_inside : p.nodes ≤ length p.node_store.now
+  nodes_inside = omega (arith, p.nodes_within, p.room_nodes)
+
+  pub children_inside : p.children ≤ length p.child_store.now
+  children_inside = omega (arith, p.children_within, p.room_children)
+
+  nodes_read : length (take p.nodes p.node_store.now) ≡ p.nodes
+  nodes_read = length-take-le p.nodes p.node_store.now nodes_inside
+
+  children_read : length (take p.children p.child_store.now) ≡ p.children
+  children_read = length-take-le p.children p.child_store.now children_inside
 
 -- A node line of `size` bytes with the entry e, after the progress p.
 module _ (p : Progress) (size : ℕ) (e : NodeEntry) (due : p.nodes < p.header.nodes) where
   measured : fitting p.header (length (take p.nodes p.node_store.now)) (length (take p.children p.child_store.now)) (length e.children) ≡ fitting p.header p.nodes p.children (length e.children)
-  measured =
-      let n : p.nodes ≤ length p.node_store.now = omega (arith, p.room_nodes, due) in
-      let c : p.children ≤ length p.child_store.now = omega (arith, p.room_children, p.children_within) in
-      ap₂ (λ i j. fitting p.header i j (length e.children)) (length-take-le p.nodes p.node_store.now n) (length-take-le p.children p.child_store.now c)
+  measured = ap₂ (λ i j. fitting p.header i j (length e.children)) (nodes_read p) (children_read p)
 
   abbrev said_node : Said NodeEntry → Said Sofar
   said_node said = and_then said (λ x. provided (fitting p.header (length (take p.nodes p.node_store.now)) (length (take p.children p.child_store.now)) (length x.children)) reason.Children (Ok (with_node (sofar p) size x)))
@@ -69,10 +80,9 @@ module _ (p : Progress) (size : ℕ) (e : NodeEntry) (due : p.nodes < p.header.n
         let cs = p.child_store.now in
         let xs = e.children in
         let inside : p.nodes < length ns = omega (arith, p.room_nodes, due) in
-        let used : p.children ≤ length cs = omega (arith, p.room_children, p.children_within) in
         let all : q.children ≡ p.children + length xs = omega (arith, children, ke) in
         let record_is : node_on k ≡ record { form = e.form; first = length (take p.children cs); count = length xs } =
-        λ i. record { form = e.form; first = sym (length-take-le p.children cs used) i; count = ke i } in
+        λ i. record { form = e.form; first = sym (children_read p) i; count = ke i } in
         let nodes_are : take q.nodes q.node_store.now ≡ take p.nodes ns ++ record { form = e.form; first = length (take p.children cs); count = length xs } ∷ [] =
         ap₂ (λ n ys. take n ys) nodes node-store ∙ take_more_set ns p.nodes (node_on k) inside ∙ ap (λ n. take p.nodes ns ++ n ∷ []) record_is in
         let children_are : take q.children q.child_store.now ≡ take p.children cs ++ xs =

@@ -11,8 +11,8 @@ use Rattle.text.specs.declared.fault.Reason.{Reason}
 use Rattle.text.specs.declared.fault.Reason.TheVariants as reason
 use Rattle.text.specs.declared.fault.Fault.{Fault}
 use Rattle.text.specs.declared.fault.Fault.TheVariants as fault
-use Rattle.text.specs.declared.kind.Kind.{Kind}
-use Rattle.text.specs.declared.kind.Kind.TheVariants as kind
+use Rattle.text.specs.declared.kind.LineKind.{LineKind}
+use Rattle.text.specs.declared.kind.LineKind.TheVariants as kind
 use Rattle.text.specs.declared.kind.Section.{Section}
 use Rattle.text.specs.declared.kind.Section.TheVariants as section
 use Rattle.text.specs.declared.record.Form.{Form}
@@ -156,7 +156,7 @@ leaf_says form [] = Ok (node_entry form [])
 leaf_says form fs = Err reason.Line
 
 -- a node line: a literal, an and with its children, a fork with its variable and its two branches, true, false
-unfoldable pub node_says : Kind → List (List ℕ) → Said NodeEntry
+unfoldable pub node_says : LineKind → List (List ℕ) → Said NodeEntry
 node_says kind.Literal (f ∷ []) = and_then (ok_or (literal f) reason.Number) (λ form. Ok (node_entry form []))
 node_says kind.And (f ∷ fs) = and_then (numbers (f ∷ fs)) (λ cs. Ok (node_entry And cs))
 node_says kind.Fork (v ∷ a ∷ b ∷ []) = and_then (number_field v) (λ n. and_then (numbers (a ∷ b ∷ [])) (λ cs. Ok (node_entry (Fork n) cs)))
@@ -179,13 +179,13 @@ pub record Sofar : Type 0 where
 abbrev pub nothing_yet : Sofar
 nothing_yet = record { header = header_of 0 0 0; variables = []; nodes = []; children = []; line = 1; place = 0 }
 
--- the section that the next line belongs to, after so many variables
-abbrev pub section_at : Header → (line variables : ℕ) → Section
-section_at h line variables = if line == 1 then section.Header else (if nat_lt variables h.variables then section.Variables else section.Nodes)
+-- the section that the next line belongs to
+abbrev pub section_of : Sofar → Section
+section_of s = if s.line == 1 then section.Header else (if nat_lt (length s.variables) s.header.variables then section.Variables else section.Nodes)
 
--- whether every line that is due has been read, by the header and the number of the next line, of variables and of nodes
-abbrev pub all_read : Header → (line variables nodes : ℕ) → Bool
-all_read h line variables nodes = nat_lt 1 line && nat_le h.variables variables && nat_le h.nodes nodes
+-- whether every line that is due has been read
+abbrev pub is_complete : Sofar → Bool
+is_complete s = nat_lt 1 s.line && nat_le s.header.variables (length s.variables) && nat_le s.header.nodes (length s.nodes)
 
 -- whether a node after `nodes` others, which have `used` children, may have `count` more: the children do not pass
 -- the header's count, and reach it at the last node
@@ -193,41 +193,42 @@ abbrev pub fitting : Header → (nodes used count : ℕ) → Bool
 fitting h nodes used count = nat_le (used + count) h.children && (nat_lt (nodes + 1) h.nodes || nat_le h.children (used + count))
 
 -- what a line is by its letter: G, V, L, A, O, T or F
-abbrev pub by_letter : ℕ → Kind
+abbrev pub by_letter : ℕ → LineKind
 by_letter b =
     if b == 71 then kind.Header else (if b == 86 then kind.Variable else (if b == 76 then kind.Literal else (if b == 65 then kind.And
     else (if b == 79 then kind.Fork else (if b == 84 then kind.True else (if b == 70 then kind.False else kind.Other))))))
 
 -- what a line is by its first field, which is one letter
-abbrev pub kind_of : List ℕ → Kind
-kind_of (b ∷ []) = by_letter b
-kind_of f = kind.Other
+abbrev pub line_kind_of : List ℕ → LineKind
+line_kind_of (b ∷ []) = by_letter b
+line_kind_of f = kind.Other
 
 -- one line on, which has `size` bytes before its byte 10
 abbrev pub with_header : Sofar → ℕ → Header → Sofar
-with_header s size h = record { header = h; variables = s.variables; nodes = s.nodes; children = s.children; line = s.line + 1; place = s.place + (size + 1) }
+with_header s size h = record s { header = h; line = s.line + 1; place = s.place + (size + 1) }
 
 abbrev pub with_variable : Sofar → ℕ → Variable → Sofar
-with_variable s size v = record { header = s.header; variables = s.variables ++ v ∷ []; nodes = s.nodes; children = s.children; line = s.line + 1; place = s.place + (size + 1) }
+with_variable s size v = record s { variables = s.variables ++ v ∷ []; line = s.line + 1; place = s.place + (size + 1) }
 
 -- a node's record says where its children begin among all children
 abbrev pub node_of : Sofar → NodeEntry → Node
 node_of s e = record { form = e.form; first = length s.children; count = length e.children }
 
 abbrev pub with_node : Sofar → ℕ → NodeEntry → Sofar
-with_node s size e = record { header = s.header; variables = s.variables; nodes = s.nodes ++ node_of s e ∷ []; children = s.children ++ e.children; line = s.line + 1; place = s.place + (size + 1) }
+with_node s size e = record s { nodes = s.nodes ++ node_of s e ∷ []; children = s.children ++ e.children; line = s.line + 1; place = s.place + (size + 1) }
 
 -- what a line of `size` bytes says, by the section that it belongs to and its kind
-abbrev pub by_section : Rooms → Sofar → (size : ℕ) → Section → Kind → List (List ℕ) → Said Sofar
+abbrev pub by_section : Rooms → Sofar → (size : ℕ) → Section → LineKind → List (List ℕ) → Said Sofar
 by_section rooms s size section.Header kind.Header fs = and_then (header_says rooms fs) (λ h. Ok (with_header s size h))
 by_section rooms s size section.Variables kind.Variable fs = and_then (variable_says s.variables fs) (λ v. Ok (with_variable s size v))
-by_section rooms s size section.Nodes k fs = and_then (node_says k fs) (λ e. provided (fitting s.header (length s.nodes) (length s.children) (length e.children)) reason.Children (Ok (with_node s size e)))
+by_section rooms s size section.Nodes k fs =
+    and_then (node_says k fs) (λ e. provided (fitting s.header (length s.nodes) (length s.children) (length e.children)) reason.Children (Ok (with_node s size e)))
 by_section rooms s size at k fs = Err reason.Line
 
 -- the first field says what the line is
 abbrev pub by_fields : Rooms → Sofar → ℕ → List (List ℕ) → Said Sofar
 by_fields rooms s size [] = Err reason.Line
-by_fields rooms s size (f ∷ fs) = by_section rooms s size (section_at s.header s.line (length s.variables)) (kind_of f) fs
+by_fields rooms s size (f ∷ fs) = by_section rooms s size (section_of s) (line_kind_of f) fs
 
 -- what a line says, after the lines before it
 unfoldable pub line_says : Rooms → Sofar → List ℕ → Said Sofar
@@ -250,10 +251,6 @@ accepted s = record {
 abbrev pub refused : Sofar → Reason → Reading
 refused s r = record { nodes = s.nodes; children = s.children; answer = Err (fault.Line r s.line) }
 
--- the same, of what the lines so far have said
-abbrev pub is_complete : Sofar → Bool
-is_complete s = all_read s.header s.line (length s.variables) (length s.nodes)
-
 -- what the lines from here on make of the file
 unfoldable pub read_on : Rooms → Sofar → List (List ℕ) → Reading
 read_on rooms s [] = if is_complete s then accepted s else refused s reason.Line
@@ -266,6 +263,10 @@ file_says rooms bytes =
     if nat_le 1 (length bytes) && nat_le (length bytes) 65536
     then read_on rooms nothing_yet (lines bytes)
     else (record { nodes = []; children = []; answer = Err fault.Length })
+
+-- what a file says to a reader with these two stores
+abbrev pub reading_of : List ℕ → List Node → List ℕ → Reading
+reading_of file ns cs = file_says (rooms_for ns cs) file
 
 -- as many nodes and children were read as the header says
 abbrev pub AsMany : Reading → Contents → Type 0

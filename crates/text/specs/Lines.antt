@@ -1,5 +1,5 @@
 -- A text as lines, and a line as fields.
-use Rattle.std.specs.Prelude.{◌≡◌, ℕ, ◌+◌, ◌<◌, length, drop, Bool, false, ◌&&◌, ◌||◌, List, [], ◌∷◌, ◌==◌, nat_le, if◌then◌else◌}
+use Rattle.std.specs.Prelude.{◌≡◌, ℕ, ◌+◌, ◌<◌, length, drop, Bool, true, false, ◌&&◌, ◌||◌, List, [], ◌∷◌, ◌==◌, nat_le, if◌then◌else◌}
 use Rattle.std.specs.List.{list_all, slice_split}
 
 -- a byte that may stand in a line: a tab, or 32 to 126
@@ -25,6 +25,10 @@ first_printable (l ∷ ls) = list_all printable l
 pub record BeginsWithLine (text line : List ℕ) : Type 0 where
   pub within : length line < length text
   pub lines_are : lines text ≡ line ∷ lines (drop (length line + 1) text)
+
+-- the text begins with the line, and each byte of the line may stand there
+abbrev pub BeginsWithPrintable : (text line : List ℕ) → Type 0
+BeginsWithPrintable text line = BeginsWithLine text line × (list_all printable line ≡ true)
 
 -- the fields of a line, parted by tabs; there is always at least one
 abbrev pub fields : List ℕ → List (List ℕ)

@@ -2,7 +2,7 @@
 use Rattle.std.specs.Prelude.{◌≡◌, ℕ, ◌+◌, ◌≤◌, List, [], ◌∷◌, ◌++◌, map, length, take, drop, Ok, Err, Result}
 use Rattle.text.specs.declared.fault.Reason.{Reason}
 use Rattle.text.specs.declared.fault.Reason.TheVariants as reason
-use Rattle.text.specs.declared.kind.Kind.{Kind}
+use Rattle.text.specs.declared.kind.LineKind.{LineKind}
 use Rattle.text.specs.declared.nodes.NodeLine.{NodeLine}
 use Rattle.text.specs.declared.progress.Progress.{Progress}
 use Rattle.text.specs.declared.kind.Section.{Section}
@@ -23,7 +23,7 @@ ReadsAs said fs (Ok n) = (said ≡ Ok (line_entry fs n)) × (n.from ≤ length f
 ReadsAs said fs (Err r) = said ≡ Err r
 
 -- it is what a line of this kind with these fields says
-abbrev pub ReadsNode : Kind → List (List ℕ) → Result NodeLine Reason → Type 0
+abbrev pub ReadsNode : LineKind → List (List ℕ) → Result NodeLine Reason → Type 0
 ReadsNode k fs r = ReadsAs (node_says k (drop 1 fs)) fs r
 
 -- what has been said so far, as the reader holds it
@@ -66,7 +66,7 @@ pub record Steps (said : Progress → Said Sofar) (before after : Progress) {U :
   pub stores : HasStoresOf before after
 
 -- what a line of a kind says in a section
-abbrev pub says_in : Section → Kind → List ℕ → Progress → Said Sofar
+abbrev pub says_in : Section → LineKind → List ℕ → Progress → Said Sofar
 says_in at k l s = by_section (rooms_of s) (sofar s) (length l) at k (drop 1 (fields l))
 
 -- what a line says

@@ -1,8 +1,12 @@
-//! Why a table file, or a line of a weight text, is refused.
+//! Why an input is refused: the faults of a table file and of a weight text, what every refusal says,
+//! and the line that a program prints for one.
+ghost use Rattle.std.specs.Prelude.{◌≡◌, ℕ, [], ◌∷◌, Some};
 ghost use Rattle.text.specs.Faults.{fault_number, fault_place};
+ghost use Rattle.text.specs.Printed.{text_of, refusal_fields};
+ghost use Rattle.text.specs.declared.fault.Layer.{Layer};
 ghost use Rattle.text.specs.declared.fault.Layer.TheVariants.{Text};
 
-use crate::refusal::Refusal;
+use std::fmt;
 
 /// What is wrong with a line.
 #[derive(Clone, Copy, Debug, PartialEq, Eq)]
@@ -38,6 +42,27 @@ pub enum Layer {
     Study,
 }
 
+/// Why an input, or a call, is refused.
+pub trait Refusal: Copy {
+    ghost numbered: { Self → ℕ };
+
+    ghost placed: { Self → ℕ };
+
+    ghost layered: { Self → Layer };
+
+    /// The refusal's number.
+    fn number(self) -> u8
+        ensures { result ≡ numbered self };
+
+    /// The line, the node or the variable of the refusal, or 0.
+    fn place(self) -> usize
+        ensures { result ≡ placed self };
+
+    /// The layer that the refusal comes from.
+    fn layer(self) -> Layer
+        ensures { result ≡ layered self };
+}
+
 impl Refusal for Fault {
     ghost numbered = { fault_number };
 
@@ -68,5 +93,19 @@ impl Refusal for Fault {
 
     fn layer(self) -> Layer {
         Layer::Text
+    }
+}
+
+/// A refusal as a line: its number and its place.
+#[derive(Clone, Copy)]
+pub struct RefusalLine<F>(pub F);
+
+impl<F: Refusal> fmt::Display for RefusalLine<F> {
+    ghost output = { λ l. Some (text_of (refusal_fields (F.numbered l.0) (F.placed l.0) ∷ [])) };
+
+    fn fmt<W: fmt::Write>(&self, f: &mut fmt::Formatter<W>) -> fmt::Result {
+        let number = self.0.number();
+        let place = self.0.place();
+        write!(f, "X\t{number}\t{place}\n")
     }
 }

@@ -1,7 +1,7 @@
 //! The bytes and the fields of a line.
-ghost use Rattle.std.specs.Prelude.{◌≡◌, true, false, [], length, slice_index_or, MatchOption};
+ghost use Rattle.std.specs.Prelude.{◌≡◌, false, [], length, slice_index_or, MatchOption};
 ghost use Rattle.std.specs.List.{list_all};
-ghost use Rattle.text.specs.Lines.{printable, first_printable, lines, fields, BeginsWithLine};
+ghost use Rattle.text.specs.Lines.{printable, first_printable, lines, fields, BeginsWithLine, BeginsWithPrintable};
 
 /// The byte between two fields.
 pub const TAB: u8 = 9;
@@ -27,7 +27,7 @@ pub(crate) fn is_printable(byte: u8) -> bool
 /// The first line of a text, without the byte that ends it, if the text has one and each byte of it
 /// may stand in a line.
 pub(crate) fn printable_line(text: &[u8]) -> Option<&[u8]>
-    ensures { MatchOption result (first_printable (lines text.now) ≡ false) (λ l. BeginsWithLine text.now l.now × (list_all printable l.now ≡ true)) }
+    ensures { MatchOption result (first_printable (lines text.now) ≡ false) (λ l. BeginsWithPrintable text.now l.now) }
 {
     // One search for both: the byte that ends a line may not stand in one.
     let end = text.iter().position(|b| !is_printable(*b))?;

@@ -10,5 +10,3 @@ pub mod numeral;
 pub mod progress;
 pub mod reader;
 pub mod record;
-pub mod refusal;
-pub mod variables;

@@ -5,11 +5,11 @@ ghost use Rattle.text.specs.Lines.{fields};
 ghost use Rattle.text.specs.Numerals.{number};
 ghost use Rattle.text.specs.Format.{is_number, number_or_zero, literal_of, literal, leaf_says};
 ghost use Rattle.text.specs.Steps.{ReadsAs, ReadsNode, written_at};
-ghost use Rattle.text.specs.declared.kind.Kind.TheVariants as kind;
+ghost use Rattle.text.specs.declared.kind.LineKind.TheVariants as kind;
 
 use crate::fault::Reason;
 use crate::fields::{TAB, field, field_count};
-use crate::kind::Kind;
+use crate::kind::LineKind;
 use crate::lines::number_field;
 use crate::numeral::read_number;
 use crate::record::Form;
@@ -116,15 +116,15 @@ fn leaf_line(line: &[u8], form: Form) -> Result<NodeLine, Reason>
 
 /// A node line of a kind.
 #[tactic(auto, unfolding(crate::specs::Format::node_says))]
-pub(crate) fn node_line(line_kind: Kind, line: &[u8]) -> Result<NodeLine, Reason>
+pub(crate) fn node_line(line_kind: LineKind, line: &[u8]) -> Result<NodeLine, Reason>
     ensures { ReadsNode line_kind (fields line.now) result }
 {
     match line_kind {
-        Kind::Literal => literal_line(line),
-        Kind::And => and_line(line),
-        Kind::Fork => fork_line(line),
-        Kind::True => leaf_line(line, Form::True),
-        Kind::False => leaf_line(line, Form::False),
-        Kind::Header | Kind::Variable | Kind::Other => Err(Reason::Line),
+        LineKind::Literal => literal_line(line),
+        LineKind::And => and_line(line),
+        LineKind::Fork => fork_line(line),
+        LineKind::True => leaf_line(line, Form::True),
+        LineKind::False => leaf_line(line, Form::False),
+        LineKind::Header | LineKind::Variable | LineKind::Other => Err(Reason::Line),
     }
 }

@@ -2,10 +2,9 @@
 use std::alloc::{AllocError, Global};
 use std::fmt::{Debug, Display};
 use std::process::Abort;
-use text::fault::{Fault, Layer};
+use text::fault::{Fault, Layer, Refusal};
 use text::reader::read_table;
 use text::record::{Contents, Form, Node};
-use text::refusal::Refusal;
 
 /// A node: what it is, where its children begin, and how many they are.
 pub type Shown = (Form, u16, u16);

@@ -7,8 +7,7 @@ use search::call::{Call, Reply};
 use search::fault::Fault;
 use std::fmt;
 use table::fault::{Fault as TableFault, Flaw};
-use text::fault::{Fault as TextFault, Reason};
-use text::refusal::Refusal;
+use text::fault::{Fault as TextFault, Reason, Refusal};
 
 /// What a call is answered.
 pub(crate) type Answer = Result<Reply<Tally>, Fault>;

@@ -6,7 +6,7 @@ use Rattle.text.specs.Lines.{lines}
 use Rattle.text.specs.Format.{rooms_for}
 use Rattle.text.specs.Steps.{sofar, first_says, Taken}
 use Rattle.text.proofs.Limits.{before_ok, before_err}
-use Rattle.text.proofs.Runs.{Going, begins, completeness, ends_accepted, ends_line, ends_inside, ends_outside, goes_on, rooms_same, next_place}
+use Rattle.text.proofs.Runs.{Going, begins, ends_accepted, ends_line, ends_inside, ends_outside, goes_on, rooms_same, next_place}
 use Rattle.text.proofs.Printable.{file_printable}
 use Rattle.text.proofs.Counts.{file_counted}
 use Rattle.text.proofs.reader.read_table.Goals as goal
@@ -21,7 +21,7 @@ returns-then-file-lt1 c =
     record { answer = e.answer_is; nodes = e.nodes_are; children = e.children_are; counts = tt; names = tt }
 
 pub loop-line-init : goal.loop-line-init
-loop-line-init c = record { going = begins c.args.file.now c.args.nodes.now c.args.children.now c.new-progress.result c.new-progress.ensures.begins c.new-progress.ensures.nodes.1 c.new-progress.ensures.children.1; nodes = refl; children = refl }
+loop-line-init c = record { going = begins c.args.file.now c.args.nodes.now c.args.children.now c.new-progress.result c.new-progress.ensures.begins c.new-progress.ensures.nodes c.new-progress.ensures.children; nodes = refl; children = refl }
 
 -- a line was taken
 next : (c : In_ok-map_err) → Going c.args.file.now c.args.nodes.now c.args.children.now c.take_next.new.self × (c.loop-line.progress.place < c.take_next.new.self.place)
@@ -32,7 +32,7 @@ next c =
     let s = c.loop-line.progress in
     let t = c.take_next.new.self in
     let g = c.loop-line.invariant.going in
-    let due = completeness file ns cs s g ∙ sym c.loop-line-test.ensures in
+    let due = sym c.loop-line-test.ensures in
     let ok = before_ok c.take_next.result c.map_err.result _ c.map_err.ensures.cases _ c.in_ok-map_err.was in
     let step = rw ok at c.take_next.ensures.moves in
     let taken = subst (λ rooms. Taken s t (first_says rooms (sofar s) (lines (drop s.place file)))) (rooms_same file ns cs s g) step in
@@ -53,7 +53,7 @@ returns-in_err-map_err c =
     let cs = c.args.children.now in
     let s = c.loop-line.progress in
     let g = c.loop-line.invariant.going in
-    let due = completeness file ns cs s g ∙ sym c.loop-line-test.ensures in
+    let due = sym c.loop-line-test.ensures in
     let err = before_err c.take_next.result c.map_err.result _ c.map_err.ensures.cases _ c.in_err-map_err.was in
     let why : c.in_err-map_err.field-0.0 ≡ fault.Line err.0 c.loop-line.progress.line = let l = err.2 in search rules in
     let told = rw err.1 at c.take_next.ensures.moves in
@@ -61,8 +61,8 @@ returns-in_err-map_err c =
     let e = ends_inside file ns cs _ _ _ c.if-file-lt1.false c.if-file-gt65536.false (ends_line file ns cs s g due err.0 says) in
     let p = err_from_is_err_and c.from_residual.result c.from_residual.ensures.1 in
     let stores = c.take_next.ensures.stores in
-    let nodes_named = sym (stores.nodes ∙ c.loop-line.invariant.nodes ∙ c.new-progress.ensures.nodes.0) in
-    let children_named = sym (stores.children ∙ c.loop-line.invariant.children ∙ c.new-progress.ensures.children.0) in
+    let nodes_named = sym (stores.nodes ∙ c.loop-line.invariant.nodes ∙ c.new-progress.ensures.same_nodes) in
+    let children_named = sym (stores.children ∙ c.loop-line.invariant.children ∙ c.new-progress.ensures.same_children) in
     let nodes_are = told.1 ∙ e.nodes_are in
     let children_are = told.2 ∙ e.children_are in
     record {
@@ -80,11 +80,11 @@ returns c =
     let cs = c.args.children.now in
     let s = c.loop-line.progress in
     let g = c.loop-line.invariant.going in
-    let done = completeness file ns cs s g ∙ sym c.loop-line-test.ensures in
+    let done = sym c.loop-line-test.ensures in
     let e = ends_inside file ns cs _ _ _ c.if-file-lt1.false c.if-file-gt65536.false (ends_accepted file ns cs s g done) in
     let answer = ap (λ vs. Ok (record { variables = vs; nodes = s.header.nodes; children = s.header.children; weights = s.place })) s.variables_are ∙ e.answer_is in
-    let nodes_named = sym (c.loop-line.invariant.nodes ∙ c.new-progress.ensures.nodes.0) in
-    let children_named = sym (c.loop-line.invariant.children ∙ c.new-progress.ensures.children.0) in
+    let nodes_named = sym (c.loop-line.invariant.nodes ∙ c.new-progress.ensures.same_nodes) in
+    let children_named = sym (c.loop-line.invariant.children ∙ c.new-progress.ensures.same_children) in
     record {
       answer = answer;
       nodes = search rules;

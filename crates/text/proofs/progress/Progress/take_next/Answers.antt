@@ -1,11 +1,10 @@
-use Rattle.std.proofs.Common.{◌≡◌, true, drop, Some, None, Err, sym, ap, ◌∙◌, subst, arith}
-use Rattle.std.specs.List.{list_all}
+use Rattle.std.proofs.Common.{◌≡◌, drop, Some, None, Err, sym, ap, ◌∙◌, subst, arith}
 use Rattle.std.specs.Option.{ok_or}
 use Rattle.std.specs.Result.{result_ok}
 use Rattle.std.proofs.lemmas.List.{take_rest, length-drop}
 use Rattle.std.proofs.lemmas.Result.{err_from_is_err_and}
 use Rattle.text.specs.declared.fault.Reason.TheVariants as reason
-use Rattle.text.specs.Lines.{printable, first_printable, lines, BeginsWithLine}
+use Rattle.text.specs.Lines.{first_printable, lines, BeginsWithLine, BeginsWithPrintable}
 use Rattle.text.specs.Steps.{sofar, rooms_of, says, first_says, next_says}
 use Rattle.text.proofs.Limits.{same_err}
 use Rattle.text.proofs.Sections.{refused_by, said_by, unprintable_first}
@@ -13,7 +12,7 @@ use Rattle.text.proofs.progress.Progress.take_next.Goals as goal
 use Rattle.text.proofs.progress.Progress.take_next.Goals.{In_ok-line}
 
 -- what is left begins with the line
-begins : (c : In_ok-line) → BeginsWithLine (drop c.args.self.now.place c.args.file.now) c.in_ok-line.line.now × (list_all printable c.in_ok-line.line.now ≡ true)
+begins : (c : In_ok-line) → BeginsWithPrintable (drop c.args.self.now.place c.args.file.now) c.in_ok-line.line.now
 begins c =
     let found : c.printable_line.result ≡ Some c.in_ok-line.line = c.ok_or.ensures.ok_part ∙ ap result_ok c.in_ok-line.was in
     let cut = rw found at c.printable_line.ensures in
