@@ -17,7 +17,7 @@ use Rattle.table.specs.Sound.{Roles, known, none, is_literal, has_literal, unles
 use Rattle.table.specs.Nodes.{shape_by, shape, shapes}
 use Rattle.table.specs.Sets.{mask}
 use Rattle.table.specs.Masks.{nothing, bit, has_bit, chance_mask, apart_masks, no_record, literal_sets, with_child, with_children, and_flaw, fork_flaw, flaw_by, sets_by}
-use Rattle.table.specs.declared.known.NodeSets.{NodeSets}
+use Rattle.table.specs.declared.sets.NodeSets.{NodeSets}
 use Rattle.table.proofs.Packs.{packed_one, packed_or, mask_none, has_bit_is, apart_is}
 use Rattle.table.proofs.Chances.{even_is}
 

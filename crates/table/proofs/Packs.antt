@@ -10,7 +10,7 @@ use Rattle.table.specs.Circuit.{Vars, same}
 use Rattle.table.specs.Sound.{none, disjoint, apart, is_below}
 use Rattle.table.specs.Sets.{packed, mask}
 use Rattle.table.specs.Masks.{nothing, has_bit, apart_masks}
-use Rattle.table.specs.declared.known.NodeSets.{NodeSets}
+use Rattle.table.specs.declared.sets.NodeSets.{NodeSets}
 
 pub half : (p : ℕ) (b : Bool) → (p * 2 + cond b 1 0) / 2 ≡ p
 half p true = omega arith

@@ -20,7 +20,7 @@ use Rattle.table.specs.Sound.{Roles, Verdict, sound, flawed, none, chances, flaw
 use Rattle.table.specs.Nodes.{shape, shapes, roles_of}
 use Rattle.table.specs.Sets.{mask, mentions_of}
 use Rattle.table.specs.Masks.{nothing, mentions_in, no_record, chance_mask, flaw_by, sets_by}
-use Rattle.table.specs.declared.known.NodeSets.{NodeSets}
+use Rattle.table.specs.declared.sets.NodeSets.{NodeSets}
 use Rattle.table.specs.Check.{counts_within, options_within, answer_by, check_says}
 use Rattle.table.proofs.Packs.{getD_mask}
 use Rattle.table.proofs.Chances.{total_is, roles_length}

@@ -6,8 +6,8 @@ use Rattle.text.specs.declared.record.Form.TheVariants.{Literal}
 use Rattle.text.specs.declared.record.Node.{Node}
 use Rattle.table.specs.declared.fault.Flaw.{Flaw}
 use Rattle.table.specs.declared.fault.Flaw.TheVariants as flaw
-use Rattle.table.specs.declared.known.NodeSets.{NodeSets}
-use Rattle.table.specs.declared.mentions.Mentions.{Mentions}
+use Rattle.table.specs.declared.sets.NodeSets.{NodeSets}
+use Rattle.table.specs.declared.sets.Mentions.{Mentions}
 use Rattle.table.specs.Circuit.{Shape, lit, all, fork}
 use Rattle.table.specs.Sound.{Roles, known, is_below, is_option, unless}
 

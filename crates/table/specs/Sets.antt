@@ -1,7 +1,7 @@
 -- Sets of variables as numbers: bit v - 1 stands for variable v.
 use Rattle.std.specs.Prelude.{ℕ, zero, suc, ◌+◌, ◌-◌, ◌*◌, List, ◌++◌, map, length, replicate, if◌then◌else◌}
 use Rattle.table.specs.Circuit.{Shape, Vars, mentions}
-use Rattle.table.specs.declared.mentions.Mentions.{Mentions}
+use Rattle.table.specs.declared.sets.Mentions.{Mentions}
 
 -- the variables i to i + k - 1 of a set, the lowest bit first
 unfoldable pub packed : ℕ → Vars → ℕ → ℕ

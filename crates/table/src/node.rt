@@ -5,8 +5,7 @@ ghost use Rattle.table.specs.Nodes.{shape};
 ghost use Rattle.table.specs.Masks.{and_flaw, fork_flaw, flaw_by, steady, sets_by};
 
 use crate::fault::Flaw;
-use crate::known::NodeSets;
-use crate::sets::{all_apart, all_below, bit_of, child, is_known, stretch_of};
+use crate::sets::{NodeSets, all_apart, all_below, bit_of, child, is_known, stretch_of};
 use text::record::{Form, Node};
 
 /// What a node is judged by: what is known of the nodes before it, how many variables there are, and

@@ -1,5 +1,5 @@
 use Rattle.std.proofs.Common.{◌≡◌, ℕ, ◌<◌, ◌≤◌, List, length, get_or}
-use Rattle.table.specs.declared.known.NodeSets.{NodeSets}
+use Rattle.table.specs.declared.sets.NodeSets.{NodeSets}
 use Rattle.table.specs.Masks.{nothing}
 use Rattle.table.proofs.check.mentions_of.Given as goal
 
