@@ -12,11 +12,11 @@ use Rattle.text.specs.declared.record.Form.TheVariants.{Literal, And, Fork, True
 use Rattle.text.specs.declared.record.Node.{Node}
 use Rattle.table.specs.declared.fault.Flaw.{Flaw}
 use Rattle.table.specs.declared.fault.Flaw.TheVariants as flaw
-use Rattle.table.specs.Circuit.{Shape, lit, all, fork, top, bottom, Vars, mention, mentions}
-use Rattle.table.specs.Sound.{Roles, known, none, is_literal, has_literal, unless, flaw_at, is_below}
+use Rattle.table.specs.Circuit.{Shape, lit, all, fork, top, bottom, Vars, none, mention, mentions}
+use Rattle.table.specs.Sound.{Roles, known, is_literal, has_literal, unless, flaw_at, is_below}
 use Rattle.table.specs.Nodes.{shape_by, shape, shapes}
-use Rattle.table.specs.Sets.{mask}
-use Rattle.table.specs.Masks.{nothing, bit, has_bit, chance_mask, apart_masks, no_record, literal_sets, with_child, with_children, and_flaw, fork_flaw, flaw_by, sets_by}
+use Rattle.table.specs.Sets.{mask, bit, has_bit, chance_mask}
+use Rattle.table.specs.NodeSets.{nothing, apart_masks, no_record, literal_sets, with_child, with_children, and_flaw, fork_flaw, flaw_by, sets_by}
 use Rattle.table.specs.declared.sets.NodeSets.{NodeSets}
 use Rattle.table.proofs.Packs.{packed_one, packed_or, mask_none, has_bit_is, apart_is}
 use Rattle.table.proofs.Chances.{even_is}

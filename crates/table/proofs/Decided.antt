@@ -4,8 +4,8 @@ use Rattle.std.proofs.Common.{◌≡◌, ℕ, zero, suc, ◌+◌, ◌<◌, ◌�
 use Rattle.std.proofs.lemmas.List.Elements.{All-get_or, All-from_get_or}
 use Rattle.std.proofs.lemmas.Bool.{false≢true, leb-true, le-leb, cases_eq}
 use Rattle.std.proofs.lemmas.Bool.Decides.{Decides-by_and, Decides-like, Decides-and, Decides-ltb, Decides-eqb}
-use Rattle.table.specs.Circuit.{Shape, lit, all, fork, top, bottom, Vars, same}
-use Rattle.table.specs.Sound.{Roles, none, is_literal, has_literal, disjoint, apart, known}
+use Rattle.table.specs.Circuit.{Shape, lit, all, fork, top, bottom, Vars, none, same}
+use Rattle.table.specs.Sound.{Roles, is_literal, has_literal, disjoint, apart, known}
 use Rattle.table.specs.Facts.{Among, node, Known, HasLiteral}
 use Rattle.table.proofs.Listed.{decides_same, decides_every, some_at, some_among}
 

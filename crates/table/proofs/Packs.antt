@@ -6,10 +6,10 @@ use Rattle.std.proofs.Math.Bool.{and-true, and-false, not-not}
 use Rattle.std.proofs.Math.ListN.{get_or-map as get_or-mapped}
 use lib.Bits.{bit_and, bit_or, and_step, or_step}
 use Rattle.std.proofs.lemmas.Bool.{and_parts, ltb-true, eq-eqb, ne_eqb, cases_order, cases_eq}
-use Rattle.table.specs.Circuit.{Vars, same}
-use Rattle.table.specs.Sound.{none, disjoint, apart, is_below}
-use Rattle.table.specs.Sets.{packed, mask}
-use Rattle.table.specs.Masks.{nothing, has_bit, apart_masks}
+use Rattle.table.specs.Circuit.{Vars, none, same}
+use Rattle.table.specs.Sound.{disjoint, apart, is_below}
+use Rattle.table.specs.Sets.{packed, mask, has_bit}
+use Rattle.table.specs.NodeSets.{nothing, apart_masks}
 use Rattle.table.specs.declared.sets.NodeSets.{NodeSets}
 
 pub half : (p : ℕ) (b : Bool) → (p * 2 + cond b 1 0) / 2 ≡ p

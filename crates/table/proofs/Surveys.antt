@@ -15,11 +15,11 @@ use Rattle.text.specs.Format.{listed, option_count}
 use Rattle.table.specs.declared.fault.Fault.TheVariants as fault
 use Rattle.table.specs.declared.fault.Flaw.{Flaw}
 use Rattle.table.specs.declared.fault.Flaw.TheVariants as flaw
-use Rattle.table.specs.Circuit.{Shape, bottom, Vars, mention, mentions}
-use Rattle.table.specs.Sound.{Roles, Verdict, sound, flawed, none, chances, flaw_first, flaw_at, verdict_from, verdict}
+use Rattle.table.specs.Circuit.{Shape, bottom, Vars, none, mention, mentions}
+use Rattle.table.specs.Sound.{Roles, Verdict, sound, flawed, chances, flaw_first, flaw_at, verdict_from, verdict}
 use Rattle.table.specs.Nodes.{shape, shapes, roles_of}
-use Rattle.table.specs.Sets.{mask, mentions_of}
-use Rattle.table.specs.Masks.{nothing, mentions_in, no_record, chance_mask, flaw_by, sets_by}
+use Rattle.table.specs.Sets.{mask, mentions_of, chance_mask}
+use Rattle.table.specs.NodeSets.{nothing, mentions_in, no_record, flaw_by, sets_by}
 use Rattle.table.specs.declared.sets.NodeSets.{NodeSets}
 use Rattle.table.specs.Check.{counts_within, options_within, answer_by, check_says}
 use Rattle.table.proofs.Packs.{getD_mask}

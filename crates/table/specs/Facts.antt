@@ -4,8 +4,8 @@ use Rattle.text.specs.declared.record.Node.{Node}
 use Rattle.text.specs.declared.record.Variables.{Variables}
 use Rattle.text.specs.Format.{option_count, listed}
 use Rattle.table.specs.Nodes.{shapes, roles_of}
-use Rattle.table.specs.Circuit.{Shape, lit, all, fork, bottom, World, Vars, upward, truth, mentions}
-use Rattle.table.specs.Sound.{Roles, chances, none, children}
+use Rattle.table.specs.Circuit.{Shape, lit, all, fork, bottom, World, Vars, none, upward, truth, mentions}
+use Rattle.table.specs.Sound.{Roles, chances, children}
 
 -- an element of a list
 abbrev pub Among : {A : Type 0} → A → List A → Type 0

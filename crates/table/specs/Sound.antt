@@ -3,7 +3,7 @@ use Rattle.std.specs.Prelude.{ℕ, ◌+◌, ◌-◌, Bool, true, false, not, ◌
 use Rattle.std.specs.List.{list_all, list_any, range_with_len}
 use Rattle.table.specs.declared.fault.Flaw.{Flaw}
 use Rattle.table.specs.declared.fault.Flaw.TheVariants as flaw
-use Rattle.table.specs.Circuit.{Shape, lit, all, fork, bottom, Vars, same, mentions}
+use Rattle.table.specs.Circuit.{Shape, lit, all, fork, bottom, Vars, none, same, mentions}
 
 -- whether each of the variables, by number from 1, is an option; the others are chances
 abbrev pub Roles : Type 0
@@ -25,10 +25,6 @@ options rs = from 1 true rs
 
 abbrev pub chances : Roles → List ℕ
 chances rs = from 1 false rs
-
--- the empty set of variables
-abbrev pub none : Vars
-none = λ _. false
 
 -- whether a node is the literal of v that is on (or off)
 abbrev pub is_literal : ℕ → Bool → Shape → Bool

@@ -1,7 +1,7 @@
 //! The check of a table: its limits, then each node, then the root.
 ghost use Rattle.std.specs.Prelude.{◌≡◌, ◌≤◌, true, length, is_ok, Decides};
 ghost use Rattle.table.specs.Nodes.{shapes, roles_of};
-ghost use Rattle.table.specs.Masks.{mentions_in};
+ghost use Rattle.table.specs.NodeSets.{mentions_in};
 ghost use Rattle.table.specs.Check.{counts_within, circuit_says, check_says};
 ghost use Rattle.table.specs.Facts.{Accepts, Means};
 

@@ -4,7 +4,8 @@ ghost use Rattle.std.specs.List.{list_all};
 ghost use Rattle.text.specs.Format.{is_option_role};
 ghost use Rattle.table.specs.Sound.{known, is_below};
 ghost use Rattle.table.specs.Nodes.{no_node, stretch, roles_of};
-ghost use Rattle.table.specs.Masks.{bit, has_bit, chance_mask, apart_masks, nothing, literal_sets, with_child, with_children};
+ghost use Rattle.table.specs.NodeSets.{apart_masks, nothing, literal_sets, with_child, with_children};
+ghost use Rattle.table.specs.Sets.{bit, has_bit, chance_mask};
 
 use text::record::{Form, Node, Role, Variables};
 

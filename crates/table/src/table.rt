@@ -2,8 +2,7 @@
 ghost use Rattle.std.specs.Prelude.{◌≡◌, true, length, IfOk, IfErr, Ok, Err};
 ghost use Rattle.table.specs.Sound.{is_option, is_sound, known, verdict};
 ghost use Rattle.table.specs.Nodes.{shapes, roles_of};
-ghost use Rattle.table.specs.Sets.{mentions_of};
-ghost use Rattle.table.specs.Masks.{OptionSet};
+ghost use Rattle.table.specs.Sets.{mentions_of, OptionSet};
 ghost use Rattle.table.specs.Check.{check_says, counts_within, options_within};
 ghost use Rattle.table.specs.Facts.{about};
 

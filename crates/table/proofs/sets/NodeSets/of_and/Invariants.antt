@@ -3,7 +3,7 @@ use Rattle.std.proofs.Common.{◌≡◌, ℕ, true, List, length, drop}
 use Rattle.text.specs.declared.record.Node.{Node}
 use Rattle.table.specs.declared.sets.NodeSets.{NodeSets}
 use Rattle.table.specs.Sound.{is_below}
-use Rattle.table.specs.Masks.{nothing, with_children}
+use Rattle.table.specs.NodeSets.{nothing, with_children}
 use Rattle.table.proofs.sets.NodeSets.of_and.Given as goal
 
 pub record Left (sets : NodeSets) (i : ℕ) (children : List ℕ) (nodes : List Node) (before : List NodeSets) : Type 0 where
