@@ -2,8 +2,8 @@
 use Rattle.std.proofs.Common.{◌≡◌, ℕ, suc, ◌+◌, ◌*◌, false, List, [], ◌∷◌, length, replicate, None, refl, ap, ap₂, ◌∙◌, inl, inr, arith}
 use Rattle.std.proofs.lemmas.Bool.{cond-false}
 use Rattle.kinds.specs.Semiring.{Semiring}
-use Rattle.table.specs.Circuit.{Shape, mentions}
-use Rattle.table.specs.Facts.{Among, about}
+use Rattle.table.specs.Circuit.{Shape, mentions, about}
+use Rattle.table.specs.Facts.{Among}
 use Rattle.table.specs.Sound.{Roles}
 use Rattle.passes.specs.Holding.{Entries}
 use Rattle.passes.specs.Rows.{open_at, side_or_zero, sides_by, least_in_row}

@@ -1,9 +1,9 @@
 -- What the passes are for: the weighted model count, and bounds on it.
 use Rattle.std.specs.Prelude.{◌≡◌, ℕ, true, false, List, get_or, slice_index_or}
 use Rattle.kinds.specs.Semiring.{Semiring}
-use Rattle.table.specs.Circuit.{Shape, World, root}
+use Rattle.table.specs.Circuit.{Shape, World, root, about}
 use Rattle.table.specs.Count.{figure}
-use Rattle.table.specs.Facts.{about, Among}
+use Rattle.table.specs.Facts.{Among}
 use Rattle.table.specs.Sound.{Roles, chances}
 use Rattle.passes.specs.Holding.{Entries, Keeps, Complete, free, selected}
 use Rattle.passes.specs.Passes.{no_part, counts, plains, plain_bound, pairs, bound}

@@ -1,6 +1,6 @@
 -- Sets of options as numbers: bit v - 1 stands for variable v.
 use Rattle.std.specs.Prelude.{◌≡◌, ℕ, true, ◌&&◌, length}
-use Rattle.table.specs.Facts.{about}
+use Rattle.table.specs.Circuit.{about}
 use Rattle.table.specs.Sets.{has_bit}
 use Rattle.table.specs.Sound.{known, is_option}
 use Rattle.table.specs.Whole.{circuit, roles}

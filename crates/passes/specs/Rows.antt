@@ -1,9 +1,8 @@
 -- What the pair pass computes of one node, from the parts before it as they lie in the work table.
 use Rattle.std.specs.Prelude.{ℕ, ◌+◌, ◌*◌, Bool, true, false, ◌&&◌, List, [], ◌∷◌, get_or, Some, None, Option, slice_index_or, if◌then◌else◌}
 use Rattle.kinds.specs.Semiring.{Semiring, greater, lesser}
-use Rattle.table.specs.Circuit.{Shape, Vars, none, mentions}
+use Rattle.table.specs.Circuit.{Shape, Vars, none, mentions, node, about}
 use Rattle.table.specs.Sound.{Roles}
-use Rattle.table.specs.Facts.{node, about}
 use Rattle.passes.specs.Holding.{Entries, entry, is_free}
 use Rattle.passes.specs.Steps.{value_in}
 use Rattle.passes.specs.Ways.{made, side_way, plain_way}

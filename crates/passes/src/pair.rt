@@ -2,8 +2,7 @@
 //! mentions.
 ghost use Rattle.std.specs.Prelude.{◌≡◌, ◌+◌, ◌*◌, ◌<◌, ◌≤◌, true, length, map, take, drop, false, None};
 ghost use Rattle.std.specs.List.{list_all};
-ghost use Rattle.table.specs.Circuit.{mentions};
-ghost use Rattle.table.specs.Facts.{about, node};
+ghost use Rattle.table.specs.Circuit.{mentions, about, node};
 ghost use Rattle.table.specs.Nodes.{shape};
 ghost use Rattle.table.specs.Sound.{is_option, options as options_of};
 ghost use Rattle.table.specs.Whole.{circuit, roles};

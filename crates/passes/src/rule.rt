@@ -1,8 +1,7 @@
 //! What the counting and the plain pass do: each values the nodes in order, each from those before
 //! it, by a rule.
 ghost use Rattle.std.specs.Prelude.{◌≡◌, ◌*◌, ◌<◌, ◌≤◌, true, ◌++◌, length, drop};
-ghost use Rattle.table.specs.Circuit.{upward};
-ghost use Rattle.table.specs.Facts.{node};
+ghost use Rattle.table.specs.Circuit.{upward, node};
 ghost use Rattle.table.specs.Nodes.{shape};
 ghost use Rattle.table.specs.Sound.{known};
 ghost use Rattle.table.specs.Whole.{circuit, roles};

@@ -4,7 +4,7 @@ ghost use Rattle.table.specs.Sound.{is_option, is_sound, known, verdict};
 ghost use Rattle.table.specs.Nodes.{shapes, roles_of};
 ghost use Rattle.table.specs.Sets.{mentions_of, OptionSet};
 ghost use Rattle.table.specs.Check.{check_says, counts_within, options_within};
-ghost use Rattle.table.specs.Facts.{about};
+ghost use Rattle.table.specs.Circuit.{about};
 
 use crate::check::check;
 use crate::fault::Fault;

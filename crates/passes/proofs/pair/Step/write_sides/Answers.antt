@@ -1,8 +1,8 @@
 use Rattle.std.proofs.Common.{rules, ◌≡◌, ℕ, suc, ◌+◌, ◌*◌, ◌<◌, length, drop, replicate, None, Some, sym, subst, refl, ap, ◌∙◌, arith}
 use Rattle.std.proofs.lemmas.Bool.{cond-true, cond-false}
 use Rattle.std.proofs.lemmas.List.{take_all}
-use Rattle.table.specs.Circuit.{mentions}
-use Rattle.table.specs.Facts.{Among, about}
+use Rattle.table.specs.Circuit.{mentions, about}
+use Rattle.table.specs.Facts.{Among}
 use Rattle.table.specs.Whole.{circuit, roles}
 use Rattle.passes.specs.Rows.{open_at, side_or_zero, sides_by, lower, least_in_row}
 use Rattle.passes.proofs.Chains.{filled}

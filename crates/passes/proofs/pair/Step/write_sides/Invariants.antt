@@ -1,5 +1,4 @@
-use Rattle.table.specs.Circuit.{mentions}
-use Rattle.table.specs.Facts.{about}
+use Rattle.table.specs.Circuit.{mentions, about}
 use Rattle.table.specs.Whole.{circuit, roles}
 use Rattle.passes.specs.Rows.{open_at, side_or_zero}
 use Rattle.passes.proofs.Rowing.{Rowed}
