@@ -4,8 +4,8 @@ use Rattle.std.proofs.lemmas.Bool.{eqb-true, false≢true, true≢false, cond_bo
 use Rattle.kinds.specs.Semiring.{Semiring, Laws, greater}
 use Rattle.kinds.proofs.Algebra.{sum_zero, product_zero}
 use Rattle.kinds.proofs.Ranks.{Upto, upto_refl, upto_same, upto_greater, upto_lesser, sum_monotone, first_monotone, test_upto_one}
-use Rattle.table.specs.Circuit.{Shape, lit, all, top, World, same}
-use Rattle.table.specs.Facts.{Among, node, about, Ordered, HasLiteral, Proper}
+use Rattle.table.specs.Circuit.{Shape, lit, all, top, World, same, node, about}
+use Rattle.table.specs.Facts.{Among, Ordered, HasLiteral, Proper}
 use Rattle.table.specs.Sound.{is_option, children, sound, verdict}
 use Rattle.table.proofs.Sounds.{sound_proper}
 use Rattle.table.proofs.Upward.{by_children, root_last}

@@ -4,8 +4,8 @@ use Rattle.std.proofs.Common.{◌≡◌, ℕ, ◌-◌, Bool, true, false, cond, 
 use Rattle.std.proofs.lemmas.Bool.{eqb-true, false≢true, both_ways, cases_Bool, cond_both, or_left, or_right}
 use Rattle.kinds.specs.Semiring.{Semiring, Laws}
 use Rattle.kinds.proofs.Ranks.{Upto, upto_refl, greater_upto_sum, lesser_upto, sum_monotone, joined_monotone, first_monotone, test_upto_one}
-use Rattle.table.specs.Circuit.{Shape, lit, all, fork, top, bottom, Vars, same, mention, mentions}
-use Rattle.table.specs.Facts.{Among, node, about, Ordered}
+use Rattle.table.specs.Circuit.{Shape, lit, all, fork, top, bottom, Vars, same, mention, mentions, node, about}
+use Rattle.table.specs.Facts.{Among, Ordered}
 use Rattle.table.specs.Sound.{is_option, children, sound, verdict}
 use Rattle.table.proofs.Listed.{some_among}
 use Rattle.table.proofs.Sounds.{sound_proper}

@@ -4,9 +4,9 @@ use Rattle.std.proofs.Common.{◌≡◌, ℕ, ◌-◌, Bool, true, false, cond, 
 use Rattle.std.proofs.lemmas.Bool.{both_ways, cases_Bool, cases_eq, cond-true, cond-false, eq-eqb, eqb-true, ne_eqb, or_from}
 use Rattle.kinds.specs.Semiring.{Semiring, Laws}
 use Rattle.kinds.proofs.Algebra.{sum_zero, product_one, product_zero}
-use Rattle.table.specs.Circuit.{Shape, lit, all, fork, top, bottom, World, upward, same, truth, satisfied}
+use Rattle.table.specs.Circuit.{Shape, lit, all, fork, top, bottom, World, upward, same, truth, satisfied, node, true_at}
 use Rattle.table.specs.Count.{put, sum_over, weight, scenario_weight, figure}
-use Rattle.table.specs.Facts.{Among, node, true_at, Known, Proper}
+use Rattle.table.specs.Facts.{Among, Known, Proper}
 use Rattle.table.specs.Sound.{Roles, is_option, chances, sound, verdict}
 use Rattle.table.proofs.Listed.{some_at, some_among}
 use Rattle.table.proofs.Numbers.{Distinct, listed_role, role_listed, chances_distinct}

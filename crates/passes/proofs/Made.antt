@@ -2,8 +2,8 @@
 use Rattle.std.proofs.Common.{◌≡◌, ℕ, Bool, List, [], ◌∷◌, map, get_or, sym, refl, ◌∙◌, ap₂, inl, inr}
 use Rattle.kinds.specs.Semiring.{Semiring, Laws}
 use Rattle.kinds.proofs.Ranks.{Upto, upto_refl, product_monotone}
-use Rattle.table.specs.Circuit.{Shape, lit, all, fork, top, bottom, World, upward}
-use Rattle.table.specs.Facts.{Among, node, Ordered}
+use Rattle.table.specs.Circuit.{Shape, lit, all, fork, top, bottom, World, upward, node}
+use Rattle.table.specs.Facts.{Among, Ordered}
 use Rattle.table.specs.Sound.{children}
 use Rattle.table.proofs.Upward.{upward_at}
 use Rattle.passes.specs.Passes.{Part, times, value_at, count, plain, under, side_of}

@@ -5,8 +5,8 @@ use Rattle.std.specs.List.{AllByRecursion}
 use Rattle.std.proofs.lemmas.Bool.{and_from, cond-true}
 use Rattle.kinds.specs.Semiring.{Semiring, Laws, greater, lesser}
 use Rattle.kinds.proofs.Ranks.{Upto, upto_refl, upto_greater, greater_upto, lesser_upto, upto_lesser}
-use Rattle.table.specs.Circuit.{Shape, bottom, Vars, mention, mentions}
-use Rattle.table.specs.Facts.{Among, node, about, Ordered}
+use Rattle.table.specs.Circuit.{Shape, bottom, Vars, mention, mentions, node, about}
+use Rattle.table.specs.Facts.{Among, Ordered}
 use Rattle.table.specs.Sound.{is_option, options, children}
 use Rattle.table.proofs.Listed.{all_among}
 use Rattle.table.proofs.Numbers.{listed_role}

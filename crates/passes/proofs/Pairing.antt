@@ -5,8 +5,8 @@ use mathlib.Core.Path.{fun_ext}
 use Rattle.std.proofs.lemmas.List.{take_at, drop-drop, drop_at, length-take-le, take_all}
 use Rattle.std.proofs.lemmas.Bool.{cond-true, and_from}
 use Rattle.kinds.specs.Semiring.{Semiring, greater, lesser}
-use Rattle.table.specs.Circuit.{Shape, Vars, mention, mentions}
-use Rattle.table.specs.Facts.{Among, node, about, Ordered}
+use Rattle.table.specs.Circuit.{Shape, Vars, mention, mentions, node, about}
+use Rattle.table.specs.Facts.{Among, Ordered}
 use Rattle.table.specs.Sound.{is_option, options}
 use Rattle.table.proofs.Numbers.{listed_role}
 use Rattle.table.proofs.Truths.{about_at}

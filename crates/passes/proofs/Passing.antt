@@ -1,8 +1,7 @@
 -- A pass that writes one place for each node.
 use Rattle.std.proofs.Common.{◌≡◌, ℕ, ◌+◌, ◌<◌, ◌≤◌, List, [], ◌∷◌, ◌++◌, length, get_or, take, drop, set, sym, ap, ◌∙◌, ap₂, append_assoc, arith}
 use Rattle.std.proofs.lemmas.List.{length-take-le, take_all, take_at, drop_more, set_at}
-use Rattle.table.specs.Circuit.{Shape, upward}
-use Rattle.table.specs.Facts.{node}
+use Rattle.table.specs.Circuit.{Shape, upward, node}
 use Rattle.table.proofs.Upward.{upward_more, upward_length}
 
 module _ {F : Type 0} (f : List F → Shape → F) (ss : List Shape) (start : List F) where

@@ -7,8 +7,8 @@ use Rattle.text.specs.declared.record.Form.{Form}
 use Rattle.text.specs.declared.record.Form.TheVariants.{Literal, And, Fork, True, False}
 use Rattle.text.specs.declared.record.Node.{Node}
 use Rattle.table.specs.declared.table.Table.{Table}
-use Rattle.table.specs.Circuit.{Shape, lit, all, fork, top, bottom}
-use Rattle.table.specs.Facts.{Among, node, Known, Proper}
+use Rattle.table.specs.Circuit.{Shape, lit, all, fork, top, bottom, node}
+use Rattle.table.specs.Facts.{Among, Known, Proper}
 use Rattle.table.specs.Sound.{Roles, children}
 use Rattle.table.specs.Nodes.{shape, shape_by, stretch, no_node}
 use Rattle.table.specs.Whole.{circuit, roles}

@@ -2,8 +2,9 @@
 use Rattle.std.proofs.Common.{◌≡◌, ℕ, ◌<◌, Bool, true, false, ◌&&◌, length, get_or, sym, refl, ap, ap₂, ◌∙◌, arith}
 use lib.Bits.{bit_and}
 use Rattle.std.proofs.lemmas.Bool.{and_from, lt-ltb, le-leb}
-use Rattle.table.specs.Facts.{Among, about}
-use Rattle.table.specs.Masks.{has_bit, OptionSet}
+use Rattle.table.specs.Circuit.{about}
+use Rattle.table.specs.Facts.{Among}
+use Rattle.table.specs.Sets.{has_bit, OptionSet}
 use Rattle.table.specs.Sound.{is_option, options}
 use Rattle.table.specs.Whole.{circuit, roles}
 use Rattle.table.specs.declared.table.Table.{Table}

@@ -3,8 +3,8 @@ use Rattle.std.proofs.Common.{◌≡◌, ℕ, suc, ◌<◌, Bool, true, false, �
 use Rattle.std.specs.List.{AllByRecursion, list_any}
 use Rattle.kinds.specs.Semiring.{Semiring, Laws}
 use Rattle.kinds.proofs.Algebra.{weigh_sum, weigh_left, weigh_right}
-use Rattle.table.specs.Circuit.{Shape, lit, all, fork, top, bottom, mention, mentions}
-use Rattle.table.specs.Facts.{Among, node, about, Proper}
+use Rattle.table.specs.Circuit.{Shape, lit, all, fork, top, bottom, mention, mentions, node, about}
+use Rattle.table.specs.Facts.{Among, Proper}
 use Rattle.table.specs.Sound.{Roles, chances, children}
 use Rattle.table.proofs.Listed.{all_at, some_at}
 use Rattle.table.proofs.Truths.{about_at}

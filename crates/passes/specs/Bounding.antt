@@ -1,8 +1,8 @@
 -- What the passes are for: the weighted model count, and bounds on it.
 use Rattle.std.specs.Prelude.{◌≡◌, ℕ, true, false, get_or, slice_index_or}
 use Rattle.kinds.specs.Semiring.{Semiring}
-use Rattle.table.specs.Circuit.{World, root}
-use Rattle.table.specs.Facts.{about, Among}
+use Rattle.table.specs.Circuit.{World, root, about}
+use Rattle.table.specs.Facts.{Among}
 use Rattle.passes.specs.Holding.{Keeps, Complete, free}
 use Rattle.passes.specs.Passes.{no_part, counts, plains, plain_bound, pairs, bound}
 use Rattle.passes.specs.Problem.{Problem, figure_of, held_figure}

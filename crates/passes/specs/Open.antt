@@ -1,7 +1,7 @@
 -- Sets of options as numbers: bit v - 1 stands for variable v.
 use Rattle.std.specs.Prelude.{◌≡◌, ℕ, true, ◌&&◌, length}
-use Rattle.table.specs.Facts.{about}
-use Rattle.table.specs.Masks.{has_bit}
+use Rattle.table.specs.Circuit.{about}
+use Rattle.table.specs.Sets.{has_bit}
 use Rattle.table.specs.Sound.{known, is_option}
 use Rattle.passes.specs.Holding.{Entries, entry, is_free}
 use Rattle.passes.specs.Problem.{Problem}

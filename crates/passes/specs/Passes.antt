@@ -2,9 +2,8 @@
 use Rattle.std.specs.Prelude.{ℕ, Bool, true, false, ◌&&◌, List, [], ◌∷◌, ◌++◌, map, get_or, slice_index_or, if◌then◌else◌}
 use Rattle.std.specs.List.{filter}
 use Rattle.kinds.specs.Semiring.{Semiring, greater, lesser}
-use Rattle.table.specs.Circuit.{Shape, lit, all, fork, top, bottom, World, upward, same, mention, mentions, root}
+use Rattle.table.specs.Circuit.{Shape, lit, all, fork, top, bottom, World, upward, same, mention, mentions, root, about}
 use Rattle.table.specs.Count.{weight}
-use Rattle.table.specs.Facts.{about}
 use Rattle.table.specs.Sound.{Roles, is_option, options}
 use Rattle.passes.specs.Holding.{entry, is_free, denies, free}
 use Rattle.passes.specs.Problem.{Problem}

@@ -1,8 +1,7 @@
 -- What the pair pass computes of one node, from the parts before it as they lie in the work table.
 use Rattle.std.specs.Prelude.{ℕ, ◌+◌, ◌*◌, Bool, true, false, ◌&&◌, List, [], ◌∷◌, Some, None, Option, slice_index_or, if◌then◌else◌}
 use Rattle.kinds.specs.Semiring.{Semiring, greater, lesser}
-use Rattle.table.specs.Circuit.{Vars}
-use Rattle.table.specs.Facts.{node, about}
+use Rattle.table.specs.Circuit.{Vars, node, about}
 use Rattle.passes.specs.Holding.{Entries, entry, is_free}
 use Rattle.passes.specs.NodeReads.{value_in}
 use Rattle.passes.specs.Problem.{Problem}

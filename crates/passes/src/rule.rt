@@ -1,7 +1,7 @@
 //! What the counting and the plain pass do: each values the nodes in order, each from those before
 //! it, by a rule.
 ghost use Rattle.std.specs.Prelude.{◌≡◌, ◌*◌, ◌<◌, ◌≤◌, true, length};
-ghost use Rattle.table.specs.Facts.{node};
+ghost use Rattle.table.specs.Circuit.{node};
 ghost use Rattle.table.specs.Sound.{known};
 ghost use Rattle.table.specs.Whole.{circuit, roles};
 ghost use Rattle.passes.specs.declared.query.Query.{Query};

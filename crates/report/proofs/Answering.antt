@@ -15,7 +15,7 @@ use Rattle.table.specs.Check.{check_says}
 use Rattle.text.specs.Format.{is_option_role}
 use Rattle.table.specs.Nodes.{roles_of, shapes}
 use Rattle.table.specs.declared.fault.Fault.TheVariants.{Text}
-use Rattle.table.specs.declared.mentions.Mentions.{Mentions}
+use Rattle.table.specs.declared.sets.Mentions.{Mentions}
 use Rattle.table.proofs.Yes.{yes_sound}
 use Rattle.search.specs.Day.{Book, Study, Answer, Day, DaysAgree, new, answers, book_after}
 use Rattle.search.specs.Orders.{Order, Lawful}

@@ -14,7 +14,7 @@ use Rattle.parts.specs.declared.stores.Parts.{Parts}
 use Rattle.parts.specs.declared.stores.Room.{Room}
 use Rattle.table.specs.Check.{check_says}
 use Rattle.table.specs.Whole.{circuit}
-use Rattle.table.specs.declared.mentions.Mentions.{Mentions}
+use Rattle.table.specs.declared.sets.Mentions.{Mentions}
 use Rattle.table.specs.declared.fault.Fault as table
 use Rattle.table.specs.declared.fault.Fault.TheVariants.{Text}
 use Rattle.table.specs.declared.table.Table as table_struct

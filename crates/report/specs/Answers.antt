@@ -10,7 +10,7 @@ use Rattle.text.specs.declared.record.Variables.{Variables}
 use Rattle.table.specs.Circuit.{Shape}
 use Rattle.table.specs.Check.{check_says}
 use Rattle.table.specs.Nodes.{roles_of, shapes}
-use Rattle.table.specs.declared.mentions.Mentions.{Mentions}
+use Rattle.table.specs.declared.sets.Mentions.{Mentions}
 use Rattle.parts.specs.Parts.{largest, read_from}
 use Rattle.search.specs.Day.{Book, Study, Answer, Day, new, answers}
 use Rattle.search.specs.Orders.{Order}

@@ -1,7 +1,6 @@
 -- The free options, as a branching order is told of them.
 use Rattle.std.specs.Prelude.{ℕ, ◌+◌, ◌-◌, ◌*◌, List, [], ◌∷◌, length, if◌then◌else◌}
-use Rattle.table.specs.Circuit.{Shape, Vars}
-use Rattle.table.specs.Facts.{about}
+use Rattle.table.specs.Circuit.{Shape, Vars, about}
 use Rattle.table.specs.Sound.{Roles, options}
 use Rattle.passes.specs.Holding.{Entries, entry, is_free}
 use Rattle.search.specs.declared.choice.Choice.{Choice}

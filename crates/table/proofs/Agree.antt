@@ -12,12 +12,12 @@ use Rattle.text.specs.declared.record.Form.TheVariants.{Literal, And, Fork, True
 use Rattle.text.specs.declared.record.Node.{Node}
 use Rattle.table.specs.declared.fault.Flaw.{Flaw}
 use Rattle.table.specs.declared.fault.Flaw.TheVariants as flaw
-use Rattle.table.specs.Circuit.{Shape, lit, all, fork, top, bottom, Vars, mention, mentions}
-use Rattle.table.specs.Sound.{Roles, known, none, is_literal, has_literal, unless, flaw_at, is_below}
+use Rattle.table.specs.Circuit.{Shape, lit, all, fork, top, bottom, Vars, none, mention, mentions}
+use Rattle.table.specs.Sound.{Roles, known, is_literal, has_literal, unless, flaw_at, is_below}
 use Rattle.table.specs.Nodes.{shape_by, shape, shapes}
-use Rattle.table.specs.Sets.{mask}
-use Rattle.table.specs.Masks.{nothing, bit, has_bit, chance_mask, apart_masks, no_record, literal_sets, with_child, with_children, and_flaw, fork_flaw, flaw_by, sets_by}
-use Rattle.table.specs.declared.known.NodeSets.{NodeSets}
+use Rattle.table.specs.Sets.{mask, bit, has_bit, chance_mask}
+use Rattle.table.specs.NodeSets.{nothing, apart_masks, no_record, literal_sets, with_child, with_children, and_flaw, fork_flaw, flaw_by, sets_by}
+use Rattle.table.specs.declared.sets.NodeSets.{NodeSets}
 use Rattle.table.proofs.Packs.{packed_one, packed_or, mask_none, has_bit_is, apart_is}
 use Rattle.table.proofs.Chances.{even_is}
 
@@ -62,13 +62,13 @@ literal_set n x true = ap (mask n) (fun_ext (λ y. nat_eq_equiv.symm y x ∙ sym
 literal_set n x false = sym (mask_none n) ∙ ap (mask n) (fun_ext (λ y. sym (and-false (eqb x y))))
 
 module _ (rs : Roles) (ss : List Shape) (i : ℕ) (before : List NodeSets) (known_is : Known rs ss i before) where
-  and_same : (cs : List ℕ) → and_flaw before cs ≡ flaw_at rs ss (mentions ss) i (all cs)
+  and_same : (cs : List ℕ) → and_flaw before cs ≡ flaw_at rs ss i (all cs)
   and_same cs =
       ap (λ k. unless (list_all (is_below k) cs) flaw.Order (unless (apart_masks 0 before cs) flaw.Shared None)) known_is.size
       ∙ unless_same (list_all (is_below i) cs) flaw.Order _ _ (λ t.
-      ap (λ b. unless b flaw.Shared None) (apart_is (length rs) i (mentions ss) before (λ c l. ap (λ s. s.mentions) (known_is.are c l)) cs t))
+      ap (λ b. unless b flaw.Shared None) (apart_is (length rs) i ss before (λ c l. ap (λ s. s.mentions) (known_is.are c l)) cs t))
 
-  fork_same : (v a b : ℕ) → fork_flaw (length rs) (chance_mask rs) before v a b ≡ flaw_at rs ss (mentions ss) i (fork v a b)
+  fork_same : (v a b : ℕ) → fork_flaw (length rs) (chance_mask rs) before v a b ≡ flaw_at rs ss i (fork v a b)
   fork_same v a b =
       let n : ℕ = length rs in
       let ms : List Vars = mentions ss in
@@ -90,7 +90,7 @@ module _ (rs : Roles) (ss : List Shape) (i : ℕ) (before : List NodeSets) (know
       (ap₂ (λ x y. eqb (bit_and x.mentions (chance_mask rs)) (bit_and y.mentions (chance_mask rs))) ea eb
       ∙ even_is 1 rs (get_or ms a none) (get_or ms b none))))
 
-  pub flaw_same : (s : Shape) → flaw_by (length rs) (chance_mask rs) before s ≡ flaw_at rs ss (mentions ss) i s
+  pub flaw_same : (s : Shape) → flaw_by (length rs) (chance_mask rs) before s ≡ flaw_at rs ss i s
   flaw_same (lit v b) = refl
   flaw_same (all cs) = and_same cs
   flaw_same (fork v a b) = fork_same v a b

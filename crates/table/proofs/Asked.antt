@@ -5,12 +5,10 @@ use Rattle.std.proofs.lemmas.Bool.{cases_Bool, both_ways}
 use Rattle.text.specs.Format.{is_option_role, listed}
 use Rattle.text.specs.declared.record.Variable.{Variable}
 use Rattle.table.specs.declared.table.Table.{Table}
-use Rattle.table.specs.Circuit.{Vars, mention, mentions}
-use Rattle.table.specs.Sound.{none, known, is_option, verdict, sound}
+use Rattle.table.specs.Circuit.{Vars, none, mention, mentions, about}
+use Rattle.table.specs.Sound.{known, is_option, verdict, sound}
 use Rattle.table.specs.Nodes.{shape}
-use Rattle.table.specs.Sets.{mask}
-use Rattle.table.specs.Masks.{has_bit}
-use Rattle.table.specs.Facts.{about}
+use Rattle.table.specs.Sets.{mask, has_bit}
 use Rattle.table.specs.Whole.{circuit, roles}
 use Rattle.table.proofs.Upward.{upward_length}
 use Rattle.table.proofs.Truths.{about_known}

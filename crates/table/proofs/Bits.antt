@@ -10,7 +10,7 @@ use Rattle.std.proofs.lemmas.List.Sums.{fold-append}
 use Rattle.std.proofs.lemmas.Nat.Bits.{and_pow, bit_at_and, bit_at-zero, bit_at_lowest, bit_at-suc}
 use Rattle.std.proofs.Math.Bool.{and-false}
 use Rattle.std.proofs.Math.Nat.{min-zero, zero-min}
-use Rattle.table.specs.Masks.{has_bit}
+use Rattle.table.specs.Sets.{has_bit}
 use Rattle.table.proofs.Packs.{half, low}
 
 -- whether a number's bit is set

@@ -10,8 +10,7 @@ use Rattle.text.specs.Format.{is_option_role, listed}
 use Rattle.table.specs.Circuit.{Vars, same}
 use Rattle.table.specs.Sound.{Roles, from, alike}
 use Rattle.table.specs.Nodes.{roles_of}
-use Rattle.table.specs.Sets.{packed}
-use Rattle.table.specs.Masks.{chance_mask}
+use Rattle.table.specs.Sets.{packed, chance_mask}
 use Rattle.table.proofs.Bits.{bits, set_step, fold_bits}
 use Rattle.table.proofs.Packs.{and_bit, same_bit}
 

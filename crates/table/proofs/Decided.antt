@@ -4,9 +4,9 @@ use Rattle.std.proofs.Common.{◌≡◌, ℕ, zero, suc, ◌+◌, ◌<◌, ◌�
 use Rattle.std.proofs.lemmas.List.Elements.{All-get_or, All-from_get_or}
 use Rattle.std.proofs.lemmas.Bool.{false≢true, leb-true, le-leb, cases_eq}
 use Rattle.std.proofs.lemmas.Bool.Decides.{Decides-by_and, Decides-like, Decides-and, Decides-ltb, Decides-eqb}
-use Rattle.table.specs.Circuit.{Shape, lit, all, fork, top, bottom, Vars, same}
-use Rattle.table.specs.Sound.{Roles, none, is_literal, has_literal, disjoint, apart, known}
-use Rattle.table.specs.Facts.{Among, node, Known, HasLiteral}
+use Rattle.table.specs.Circuit.{Shape, lit, all, fork, top, bottom, Vars, same, node, about}
+use Rattle.table.specs.Sound.{Roles, is_literal, has_literal, disjoint, apart, known}
+use Rattle.table.specs.Facts.{Among, Known, HasLiteral}
 use Rattle.table.proofs.Listed.{decides_same, decides_every, some_at, some_among}
 
 pub decides_known : (rs : Roles) (v : ℕ) → Decides (known (length rs) v) (Known rs v)
@@ -55,22 +55,22 @@ decides_disjoint vs a b = decides_every _ _ (λ v. not_both (a v) (b v)) vs
     not_both true false = (λ _ _ e. false≢true e, λ _. refl)
     not_both false q = (λ _ e _. false≢true e, λ _. refl)
 
-module _ (vs : List ℕ) (ms : List Vars) where
+module _ (vs : List ℕ) (ss : List Shape) where
   -- no two of the nodes cs mention one variable of vs
   abbrev pub Apart : List ℕ → Type 0
-  Apart cs = (j k : ℕ) → j < k → k < length cs → Disjoint vs (get_or ms (get_or cs j 0) none) (get_or ms (get_or cs k 0) none)
+  Apart cs = (j k : ℕ) → j < k → k < length cs → Disjoint vs (about ss (get_or cs j 0)) (about ss (get_or cs k 0))
 
-  apart_more : (c : ℕ) (cs : List ℕ) → All (λ d. Disjoint vs (get_or ms c none) (get_or ms d none)) cs × Apart cs → Apart (c ∷ cs)
+  apart_more : (c : ℕ) (cs : List ℕ) → All (λ d. Disjoint vs (about ss c) (about ss d)) cs × Apart cs → Apart (c ∷ cs)
   apart_more c cs h zero zero l m = absurd (omega arith)
-  apart_more c cs h zero (suc k) l m = All-get_or (λ d. Disjoint vs (get_or ms c none) (get_or ms d none)) cs k 0 (omega arith) h.0
+  apart_more c cs h zero (suc k) l m = All-get_or (λ d. Disjoint vs (about ss c) (about ss d)) cs k 0 (omega arith) h.0
   apart_more c cs h (suc j) zero l m = absurd (omega arith)
   apart_more c cs h (suc j) (suc k) l m = h.1 j k (omega arith) (omega arith)
 
-  pub decides_apart : (cs : List ℕ) → Decides (apart vs ms cs) (Apart cs)
+  pub decides_apart : (cs : List ℕ) → Decides (apart vs ss cs) (Apart cs)
   decides_apart [] = (λ _ j k l h. absurd (not-suc-le-zero h), λ _. refl)
   decides_apart (c ∷ cs) =
-      Decides-like (apart vs ms (c ∷ cs)) (apart_more c cs)
-      (λ h. (All-from_get_or (λ d. Disjoint vs (get_or ms c none) (get_or ms d none)) cs 0 (λ k l. h 0 (suc k) (omega arith) (omega arith)), λ j k l m. h (suc j) (suc k) (omega arith) (omega arith)))
-      (Decides-and (list_all (λ d. disjoint vs (get_or ms c none) (get_or ms d none)) cs) (apart vs ms cs)
-      (Decides-by_and _ _ (list_all (λ d. disjoint vs (get_or ms c none) (get_or ms d none))) (λ d. decides_disjoint vs (get_or ms c none) (get_or ms d none)) refl (λ _ _. refl) cs)
+      Decides-like (apart vs ss (c ∷ cs)) (apart_more c cs)
+      (λ h. (All-from_get_or (λ d. Disjoint vs (about ss c) (about ss d)) cs 0 (λ k l. h 0 (suc k) (omega arith) (omega arith)), λ j k l m. h (suc j) (suc k) (omega arith) (omega arith)))
+      (Decides-and (list_all (λ d. disjoint vs (about ss c) (about ss d)) cs) (apart vs ss cs)
+      (Decides-by_and _ _ (list_all (λ d. disjoint vs (about ss c) (about ss d))) (λ d. decides_disjoint vs (about ss c) (about ss d)) refl (λ _ _. refl) cs)
       (decides_apart cs))

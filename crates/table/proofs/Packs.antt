@@ -6,11 +6,11 @@ use Rattle.std.proofs.Math.Bool.{and-true, and-false, not-not}
 use Rattle.std.proofs.Math.ListN.{get_or-map as get_or-mapped}
 use lib.Bits.{bit_and, bit_or, and_step, or_step}
 use Rattle.std.proofs.lemmas.Bool.{and_parts, ltb-true, eq-eqb, ne_eqb, cases_order, cases_eq}
-use Rattle.table.specs.Circuit.{Vars, same}
-use Rattle.table.specs.Sound.{none, disjoint, apart, is_below}
-use Rattle.table.specs.Sets.{packed, mask}
-use Rattle.table.specs.Masks.{nothing, has_bit, apart_masks}
-use Rattle.table.specs.declared.known.NodeSets.{NodeSets}
+use Rattle.table.specs.Circuit.{Vars, none, same, about, Shape}
+use Rattle.table.specs.Sound.{disjoint, apart, is_below}
+use Rattle.table.specs.Sets.{packed, mask, has_bit}
+use Rattle.table.specs.NodeSets.{nothing, apart_masks}
+use Rattle.table.specs.declared.sets.NodeSets.{NodeSets}
 
 pub half : (p : ℕ) (b : Bool) → (p * 2 + cond b 1 0) / 2 ≡ p
 half p true = omega arith
@@ -189,21 +189,21 @@ every_true p [] h = refl
 every_true p (x ∷ xs) h = ap₂ ◌&&◌ (h x) (every_true p xs h)
 
 -- several nodes, of which the sets `before` are known
-module _ (n i : ℕ) (ms : List Vars) (before : List NodeSets) (read : (c : ℕ) → c < i → (get_or before c nothing).mentions ≡ mask n (get_or ms c none)) where
+module _ (n i : ℕ) (ss : List Shape) (before : List NodeSets) (read : (c : ℕ) → c < i → (get_or before c nothing).mentions ≡ mask n (about ss c)) where
   apart_seen : (seen : Vars) (cs : List ℕ) → list_all (is_below i) cs ≡ true
-      → apart_masks (mask n seen) before cs ≡ (list_all (λ d. disjoint (range_with_len 1 n) seen (get_or ms d none)) cs && apart (range_with_len 1 n) ms cs)
+      → apart_masks (mask n seen) before cs ≡ (list_all (λ d. disjoint (range_with_len 1 n) seen (about ss d)) cs && apart (range_with_len 1 n) ss cs)
   apart_seen seen [] e = refl
   apart_seen seen (c ∷ cs) e =
       let vs : List ℕ = range_with_len 1 n in
-      let mc : Vars = get_or ms c none in
+      let mc : Vars = about ss c in
       let parts = and_parts (ltb c i) (list_all (is_below i) cs) e in
       ap (λ x. eqb (bit_and (mask n seen) x) 0 && apart_masks (bit_or (mask n seen) x) before cs) (read c (ltb-true c i parts.0))
       ∙ ap₂ ◌&&◌ (mask_apart n seen mc) (ap (λ y. apart_masks y before cs) (packed_or 1 n seen mc) ∙ apart_seen (λ v. seen v || mc v) cs parts.1)
-      ∙ ap (λ f. disjoint vs seen mc && (list_all f cs && apart vs ms cs)) (fun_ext (λ d. disjoint_or vs seen mc (get_or ms d none)))
-      ∙ ap (λ b. disjoint vs seen mc && (b && apart vs ms cs)) (every_and (λ d. disjoint vs seen (get_or ms d none)) (λ d. disjoint vs mc (get_or ms d none)) cs)
-      ∙ and_swap (disjoint vs seen mc) _ _ (apart vs ms cs)
+      ∙ ap (λ f. disjoint vs seen mc && (list_all f cs && apart vs ss cs)) (fun_ext (λ d. disjoint_or vs seen mc (about ss d)))
+      ∙ ap (λ b. disjoint vs seen mc && (b && apart vs ss cs)) (every_and (λ d. disjoint vs seen (about ss d)) (λ d. disjoint vs mc (about ss d)) cs)
+      ∙ and_swap (disjoint vs seen mc) _ _ (apart vs ss cs)
 
-  pub apart_is : (cs : List ℕ) → list_all (is_below i) cs ≡ true → apart_masks 0 before cs ≡ apart (range_with_len 1 n) ms cs
+  pub apart_is : (cs : List ℕ) → list_all (is_below i) cs ≡ true → apart_masks 0 before cs ≡ apart (range_with_len 1 n) ss cs
   apart_is cs e =
       ap (λ y. apart_masks y before cs) (sym (mask_none n)) ∙ apart_seen none cs e
-      ∙ ap (λ b. b && apart (range_with_len 1 n) ms cs) (every_true (λ d. disjoint (range_with_len 1 n) none (get_or ms d none)) cs (λ d. every_true (λ v. not (none v && get_or ms d none v)) (range_with_len 1 n) (λ v. refl)))
+      ∙ ap (λ b. b && apart (range_with_len 1 n) ss cs) (every_true (λ d. disjoint (range_with_len 1 n) none (about ss d)) cs (λ d. every_true (λ v. not (none v && about ss d v)) (range_with_len 1 n) (λ v. refl)))

@@ -4,9 +4,9 @@ use Rattle.std.proofs.Common.{◌≡◌, ℕ, zero, suc, ◌+◌, ◌-◌, ◌<�
 use Rattle.std.proofs.lemmas.Bool.{false≢true, cases_Bool, cond-true, cond-false}
 use Rattle.std.proofs.lemmas.Bool.Decides.{Decides-and, Decides-ltb}
 use Rattle.table.specs.declared.fault.Flaw.{Flaw}
-use Rattle.table.specs.Circuit.{Shape, lit, all, fork, top, bottom, mentions}
+use Rattle.table.specs.Circuit.{Shape, lit, all, fork, top, bottom, node, about}
 use Rattle.table.specs.Sound.{Roles, Verdict, sound, chances, children, unless, flaw_first, flaw_at, verdict_from, verdict}
-use Rattle.table.specs.Facts.{Among, node, about, Ordered, Known, Total, KnownVariables, HasLiteral, Proper, Deterministic, LocalTruth}
+use Rattle.table.specs.Facts.{Among, Ordered, Known, Total, KnownVariables, HasLiteral, Proper, Deterministic, LocalTruth}
 use Rattle.table.proofs.Listed.{decides_same, decides_every}
 use Rattle.table.proofs.Truths.{about_known, ordered_local, decisions_exclude}
 use Rattle.table.proofs.Decided.{decides_known, decides_has, Apart, decides_apart, among_known}
@@ -34,16 +34,16 @@ module _ (rs : Roles) (ss : List Shape) where
   -- what node i is if it has no flaw
   abbrev Fine : ℕ → Shape → Type 0
   Fine i (lit v b) = Known rs v
-  Fine i (all cs) = ((c : ℕ) → Among c cs → c < i) × Apart (range_with_len 1 (length rs)) (mentions ss) cs
+  Fine i (all cs) = ((c : ℕ) → Among c cs → c < i) × Apart (range_with_len 1 (length rs)) ss cs
   Fine i (fork v a b) =
       ((a < i) × (b < i)) × (Known rs v × ((HasLiteral ss v true a × HasLiteral ss v false b) × ((x : ℕ) → Among x (chances rs) → about ss a x ≡ about ss b x)))
   Fine i top = Unit {0}
   Fine i bottom = Unit {0}
 
-  clear_at : (i : ℕ) (s : Shape) → Clear (flaw_at rs ss (mentions ss) i s) (Fine i s)
+  clear_at : (i : ℕ) (s : Shape) → Clear (flaw_at rs ss i s) (Fine i s)
   clear_at i (lit v b) = clear_last _ _ (decides_known rs v)
   clear_at i (all cs) =
-      clear_unless _ _ _ (decides_every _ _ (λ c. Decides-ltb c i) cs) (clear_last _ _ (decides_apart (range_with_len 1 (length rs)) (mentions ss) cs))
+      clear_unless _ _ _ (decides_every _ _ (λ c. Decides-ltb c i) cs) (clear_last _ _ (decides_apart (range_with_len 1 (length rs)) ss cs))
   clear_at i (fork v a b) =
       clear_unless _ _ _ (Decides-and _ _ (Decides-ltb a i) (Decides-ltb b i))
       (clear_unless _ _ _ (decides_known rs v)
@@ -55,20 +55,20 @@ module _ (rs : Roles) (ss : List Shape) where
   decides_total : Decides (list_all (about ss (length ss - 1)) (chances rs)) (Total rs ss)
   decides_total = decides_every _ _ (λ x. (λ e. e, λ e. e)) (chances rs)
 
-  fine_from : (k : ℕ) (xs : List Shape) → verdict_from rs ss (mentions ss) k xs ≡ sound → (j : ℕ) → Fine (k + j) (node xs j)
+  fine_from : (k : ℕ) (xs : List Shape) → verdict_from rs ss k xs ≡ sound → (j : ℕ) → Fine (k + j) (node xs j)
   unfolding verdict_from
   fine_from k [] e j = tt
-  fine_from k (x ∷ xs) e zero = rw add-zero ((clear_at k x).0 (clear_first k (flaw_at rs ss (mentions ss) k x) (verdict_from rs ss (mentions ss) (k + 1) xs) e).0)
+  fine_from k (x ∷ xs) e zero = rw add-zero ((clear_at k x).0 (clear_first k (flaw_at rs ss k x) (verdict_from rs ss (k + 1) xs) e).0)
   fine_from k (x ∷ xs) e (suc j) =
       let moved : k + 1 + j ≡ k + suc j = omega arith in
-      rw moved at (fine_from (k + 1) xs (clear_first k (flaw_at rs ss (mentions ss) k x) (verdict_from rs ss (mentions ss) (k + 1) xs) e).1 j)
+      rw moved at (fine_from (k + 1) xs (clear_first k (flaw_at rs ss k x) (verdict_from rs ss (k + 1) xs) e).1 j)
 
-  total_from : (k : ℕ) (xs : List Shape) → verdict_from rs ss (mentions ss) k xs ≡ sound → Total rs ss
+  total_from : (k : ℕ) (xs : List Shape) → verdict_from rs ss k xs ≡ sound → Total rs ss
   unfolding verdict_from
   total_from k [] e = decides_total.0 (elim (cases_Bool (list_all (about ss (length ss - 1)) (chances rs))) [ inl t ↦ t | inr f ↦ cc (cond-false _ sound _ f) ])
-  total_from k (x ∷ xs) e = total_from (k + 1) xs (clear_first k (flaw_at rs ss (mentions ss) k x) (verdict_from rs ss (mentions ss) (k + 1) xs) e).1
+  total_from k (x ∷ xs) e = total_from (k + 1) xs (clear_first k (flaw_at rs ss k x) (verdict_from rs ss (k + 1) xs) e).1
 
-  sound_from : Total rs ss → (k : ℕ) (xs : List Shape) → ((j : ℕ) → Fine (k + j) (node xs j)) → verdict_from rs ss (mentions ss) k xs ≡ sound
+  sound_from : Total rs ss → (k : ℕ) (xs : List Shape) → ((j : ℕ) → Fine (k + j) (node xs j)) → verdict_from rs ss k xs ≡ sound
   unfolding verdict_from
   sound_from total k [] h = cond-true _ _ _ (decides_total.1 total)
   sound_from total k (x ∷ xs) h =

@@ -15,13 +15,13 @@ use Rattle.text.specs.Format.{listed, option_count}
 use Rattle.table.specs.declared.fault.Fault.TheVariants as fault
 use Rattle.table.specs.declared.fault.Flaw.{Flaw}
 use Rattle.table.specs.declared.fault.Flaw.TheVariants as flaw
-use Rattle.table.specs.Circuit.{Shape, bottom, Vars, mention, mentions}
-use Rattle.table.specs.Sound.{Roles, Verdict, sound, flawed, none, chances, flaw_first, flaw_at, verdict_from, verdict}
+use Rattle.table.specs.Circuit.{Shape, bottom, Vars, none, mention, mentions}
+use Rattle.table.specs.Sound.{Roles, Verdict, sound, flawed, chances, flaw_first, flaw_at, verdict_from, verdict}
 use Rattle.table.specs.Nodes.{shape, shapes, roles_of}
-use Rattle.table.specs.Sets.{mask, mentions_of}
-use Rattle.table.specs.Masks.{nothing, mentions_in, no_record, chance_mask, flaw_by, sets_by}
-use Rattle.table.specs.declared.known.NodeSets.{NodeSets}
-use Rattle.table.specs.Check.{counts_within, options_within, answer_by, check_says}
+use Rattle.table.specs.Sets.{mask, mentions_of, chance_mask}
+use Rattle.table.specs.NodeSets.{nothing, mentions_in, no_record, flaw_by, sets_by}
+use Rattle.table.specs.declared.sets.NodeSets.{NodeSets}
+use Rattle.table.specs.Check.{counts_within, options_within, answer_by, circuit_says, check_says}
 use Rattle.table.proofs.Packs.{getD_mask}
 use Rattle.table.proofs.Chances.{total_is, roles_length}
 use Rattle.table.proofs.Upward.{upward_length, upward_here}
@@ -29,7 +29,7 @@ use Rattle.table.proofs.Agree.{sets_at, sets_with, Known, flaw_same, sets_same}
 
 -- the first i nodes are checked
 pub record Checked (rs : Roles) (ss : List Shape) (i : ℕ) (all : List NodeSets) : Type 0 where
-  pub rest : verdict_from rs ss (mentions ss) i (drop i ss) ≡ verdict rs ss
+  pub rest : verdict_from rs ss i (drop i ss) ≡ verdict rs ss
   pub are : (c : ℕ) → c < i → get_or all c nothing ≡ sets_at rs ss c
   pub size : length all ≡ 4096
 
@@ -64,25 +64,25 @@ module _ (vs : Variables) (cs : List ℕ) (ns : List Node) (i : ℕ) (known : Li
     are = λ c m. get_or-take i known c nothing m ∙ inv.are c m;
   }
 
-  flaw_known : flaw_by (length rs) (chance_mask rs) (take i known) here ≡ flaw_at rs ss (mentions ss) i here
+  flaw_known : flaw_by (length rs) (chance_mask rs) (take i known) here ≡ flaw_at rs ss i here
   flaw_known = flaw_same rs ss i (take i known) known_is here
 
-  flaw_here : flaw_by (length all) k (take i known) read ≡ flaw_at rs ss (mentions ss) i here
+  flaw_here : flaw_by (length all) k (take i known) read ≡ flaw_at rs ss i here
   flaw_here =
       ap₂ (λ x y. flaw_by x y (take i known) read) (ap length all_are ∙ sym (roles_length vs)) k-is
       ∙ ap (flaw_by (length rs) (chance_mask rs) (take i known)) node_is
       ∙ flaw_known
 
-  step : verdict_from rs ss (mentions ss) i (drop i ss) ≡ flaw_first i (flaw_at rs ss (mentions ss) i here) (verdict_from rs ss (mentions ss) (i + 1) (drop (i + 1) ss))
+  step : verdict_from rs ss i (drop i ss) ≡ flaw_first i (flaw_at rs ss i here) (verdict_from rs ss (i + 1) (drop (i + 1) ss))
   unfolding verdict_from
-  step = at_drop_more (verdict_from rs ss (mentions ss) i) ss i bottom (let e = size in omega arith)
+  step = at_drop_more (verdict_from rs ss i) ss i bottom (let e = size in omega arith)
 
   after : Option Flaw → Verdict
-  after o = flaw_first i o (verdict_from rs ss (mentions ss) (i + 1) (drop (i + 1) ss))
+  after o = flaw_first i o (verdict_from rs ss (i + 1) (drop (i + 1) ss))
 
   -- a node with a flaw decides
   pub stops : (f : Flaw) → Some f ≡ flaw_by (length all) k (take i known) (shape cs (get_or ns i no_record))
-      → Err (fault.Node f i) ≡ answer_by (roles_of vs) (shapes cs ns) (verdict (roles_of vs) (shapes cs ns))
+      → Err (fault.Node f i) ≡ circuit_says (roles_of vs) (shapes cs ns)
   unfolding after
   stops f e = sym (ap (answer_by rs ss) (sym inv.rest ∙ step ∙ ap after (sym (e ∙ flaw_here))))
 
@@ -90,7 +90,7 @@ module _ (vs : Variables) (cs : List ℕ) (ns : List Node) (i : ℕ) (known : Li
     flawless : flaw_by (length rs) (chance_mask rs) (take i known) here ≡ None
     flawless = flaw_known ∙ sym (fine ∙ flaw_here)
 
-    goes : verdict_from rs ss (mentions ss) (i + 1) (drop (i + 1) ss) ≡ verdict rs ss
+    goes : verdict_from rs ss (i + 1) (drop (i + 1) ss) ≡ verdict rs ss
     unfolding after
     goes = ap after (fine ∙ flaw_here) ∙ sym step ∙ inv.rest
 
@@ -131,7 +131,7 @@ module _ (rs : Roles) (cs : List ℕ) (ns : List Node) (i : ℕ) (known : List N
 
   final : verdict rs whole ≡ cond (list_all top_set (chances rs)) sound (flawed flaw.Missing (length whole - 1))
   unfolding verdict_from
-  final = sym (sym (at_drop_all (verdict_from rs whole (mentions whole) i) whole i (let e = count in omega arith)) ∙ inv.rest)
+  final = sym (sym (at_drop_all (verdict_from rs whole i) whole i (let e = count in omega arith)) ∙ inv.rest)
 
   root_set : (get_or known (length ns - 1) nothing).mentions ≡ mask (length rs) top_set
   root_set = ap (λ s. s.mentions) (inv.are (length ns - 1) (omega arith)) ∙ ap (λ n. mask (length rs) (get_or (mentions whole) n none)) (sym last_is)
@@ -139,7 +139,7 @@ module _ (rs : Roles) (cs : List ℕ) (ns : List Node) (i : ℕ) (known : List N
   root_test : eqb (bit_and (get_or known (length ns - 1) nothing).mentions k) k ≡ list_all top_set (chances rs)
   root_test = ap₂ (λ x y. eqb (bit_and x y) y) root_set k-is ∙ total_is 1 rs top_set
 
-  pub misses : (bit_and (get_or known (length ns - 1) nothing).mentions k ≡ k → ⊥) → Err (fault.Node flaw.Missing (length ns - 1)) ≡ answer_by rs (shapes cs ns) (verdict rs (shapes cs ns))
+  pub misses : (bit_and (get_or known (length ns - 1) nothing).mentions k ≡ k → ⊥) → Err (fault.Node flaw.Missing (length ns - 1)) ≡ circuit_says rs (shapes cs ns)
   misses n =
       sym (ap (answer_by rs whole) (final ∙ cond-false _ sound (flawed flaw.Missing (length whole - 1)) (sym root_test ∙ ne_eqb _ _ n))
       ∙ ap (λ m. Err (fault.Node flaw.Missing m)) last_is)
@@ -161,7 +161,7 @@ module _ (rs : Roles) (cs : List ℕ) (ns : List Node) (i : ℕ) (known : List N
           get_or-mapped (λ s. s.mentions) (take (length ns) known) c nothing
           ∙ ap (λ s. s.mentions) (get_or-take (length ns) known c nothing m ∙ inv.are c (omega arith)) ∙ sym (getD_mask (length rs) (mentions whole) c)
 
-  pub passes : bit_and (get_or known (length ns - 1) nothing).mentions k ≡ k → Ok (mentions_in (take (length ns) known)) ≡ answer_by rs (shapes cs ns) (verdict rs (shapes cs ns))
+  pub passes : bit_and (get_or known (length ns - 1) nothing).mentions k ≡ k → Ok (mentions_in (take (length ns) known)) ≡ circuit_says rs (shapes cs ns)
   passes e =
       sym (ap (answer_by rs whole) (final ∙ cond-true _ sound (flawed flaw.Missing (length whole - 1)) (sym root_test ∙ eq-eqb _ _ e))
       ∙ ap Ok (sym filled_up))
@@ -176,6 +176,6 @@ module _ (vs : Variables) (ns : List Node) (cs : List ℕ) where
   unfolding check_says
   options_fail e h = sym (cond-true (counts_within vs ns) _ _ (sym e) ∙ cond-false (options_within vs) _ _ (lt-leb (option_count (listed vs)) 20 h))
 
-  pub limits_hold : true ≡ counts_within vs ns → option_count (listed vs) ≤ 20 → answer_by (roles_of vs) (shapes cs ns) (verdict (roles_of vs) (shapes cs ns)) ≡ check_says vs ns cs
+  pub limits_hold : true ≡ counts_within vs ns → option_count (listed vs) ≤ 20 → circuit_says (roles_of vs) (shapes cs ns) ≡ check_says vs ns cs
   unfolding check_says
   limits_hold e h = sym (cond-true (counts_within vs ns) _ _ (sym e) ∙ cond-true (options_within vs) _ _ (le-leb (option_count (listed vs)) 20 h))

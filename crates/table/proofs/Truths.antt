@@ -2,9 +2,9 @@
 use Rattle.std.proofs.Common.{◌≡◌, ℕ, Bool, true, false, ◌||◌, List, get_or, sym, refl, ap, ◌∙◌, ap₂, inl, inr, true≢false}
 use mathlib.Core.Path.{fun_ext}
 use Rattle.std.proofs.lemmas.Bool.{false≢true, or_left, or_right, or_cases, eqb-true, eq-eqb}
-use Rattle.table.specs.Circuit.{Shape, lit, all, fork, top, bottom, World, Vars, upward, same, truth, mention, mentions}
-use Rattle.table.specs.Sound.{Roles, none, children}
-use Rattle.table.specs.Facts.{Among, node, about, true_at, Ordered, Known, KnownVariables, HasLiteral, Decisions, Deterministic, LocalTruth}
+use Rattle.table.specs.Circuit.{Shape, lit, all, fork, top, bottom, World, Vars, none, upward, same, truth, mention, mentions, node, about, true_at}
+use Rattle.table.specs.Sound.{Roles, children}
+use Rattle.table.specs.Facts.{Among, Ordered, Known, KnownVariables, HasLiteral, Decisions, Deterministic, LocalTruth}
 use Rattle.table.proofs.Listed.{decides_same, every_at, every_same, some_same, some_at, some_among}
 use Rattle.table.proofs.Upward.{by_children, upward_at}
 

@@ -2,9 +2,9 @@
 use Rattle.std.proofs.Common.{◌≡◌, ℕ, zero, suc, ◌+◌, ◌-◌, ◌<◌, ◌≤◌, List, [], ◌∷◌, ◌++◌, length, get_or, take, drop, sym, refl, ap, ◌∙◌, ⊎_elim, not-suc-le-zero, zero-add, arith}
 use Rattle.std.proofs.lemmas.List.{get_or_past, get_or-take, get_or_push, length-append, length-take-le, take_all, take-append-drop, take-append-le, take_more}
 use Rattle.std.proofs.lemmas.Bool.{cases_lt}
-use Rattle.table.specs.Circuit.{Shape, bottom, onward, upward, root}
+use Rattle.table.specs.Circuit.{Shape, bottom, onward, upward, root, node}
 use Rattle.table.specs.Sound.{children}
-use Rattle.table.specs.Facts.{Among, node, Ordered}
+use Rattle.table.specs.Facts.{Among, Ordered}
 
 -- what holds of a node if it holds of its children holds of each node
 pub by_children : (ss : List Shape) → Ordered ss → (P : ℕ → Type 0) → ((i : ℕ) → ((c : ℕ) → Among c (children (node ss i)) → P c) → P i) → (i : ℕ) → P i

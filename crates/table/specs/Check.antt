@@ -7,7 +7,7 @@ use Rattle.text.specs.declared.record.Node.{Node}
 use Rattle.text.specs.declared.record.Variables.{Variables}
 use Rattle.table.specs.declared.fault.Fault.{Fault}
 use Rattle.table.specs.declared.fault.Fault.TheVariants as fault
-use Rattle.table.specs.declared.mentions.Mentions.{Mentions}
+use Rattle.table.specs.declared.sets.Mentions.{Mentions}
 use Rattle.table.specs.Circuit.{Shape}
 use Rattle.table.specs.Sound.{Roles, Verdict, sound, flawed, verdict}
 use Rattle.table.specs.Nodes.{shapes, roles_of}
@@ -26,11 +26,15 @@ abbrev pub answer_by : Roles → List Shape → Verdict → Result Mentions Faul
 answer_by rs ss sound = Ok (mentions_of (length rs) ss)
 answer_by rs ss (flawed f i) = Err (fault.Node f i)
 
+-- what the check answers of a circuit
+abbrev pub circuit_says : Roles → List Shape → Result Mentions Fault
+circuit_says rs ss = answer_by rs ss (verdict rs ss)
+
 -- what the check answers: the limits come first, with the reader's refusals, then the circuit
 unfoldable pub check_says : Variables → List Node → List ℕ → Result Mentions Fault
 check_says vs ns cs =
     if counts_within vs ns
     then (if options_within vs
-    then answer_by (roles_of vs) (shapes cs ns) (verdict (roles_of vs) (shapes cs ns))
+    then circuit_says (roles_of vs) (shapes cs ns)
     else Err (fault.Text (text_fault.Line reason.Variable (vs.count + 1))))
     else Err (fault.Text (text_fault.Line reason.Limit 1))

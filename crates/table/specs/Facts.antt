@@ -1,28 +1,16 @@
 -- What a sound circuit is, in propositions over its nodes.
-use Rattle.std.specs.Prelude.{◌≡◌, ℕ, ◌-◌, ◌<◌, ◌≤◌, Bool, true, false, ◌⊎◌, List, [], ◌∷◌, length, ◌≢◌, slice_index, slice_index_or}
+use Rattle.std.specs.Prelude.{◌≡◌, ℕ, ◌-◌, ◌<◌, ◌≤◌, Bool, true, false, ◌⊎◌, List, [], ◌∷◌, length, ◌≢◌, slice_index}
 use Rattle.text.specs.declared.record.Node.{Node}
 use Rattle.text.specs.declared.record.Variables.{Variables}
 use Rattle.text.specs.Format.{option_count, listed}
 use Rattle.table.specs.Nodes.{shapes, roles_of}
-use Rattle.table.specs.Circuit.{Shape, lit, all, fork, bottom, World, Vars, upward, truth, mentions}
-use Rattle.table.specs.Sound.{Roles, chances, none, children}
+use Rattle.table.specs.Circuit.{Shape, lit, all, fork, World, node, about, true_at}
+use Rattle.table.specs.Sound.{Roles, chances, children}
 
 -- an element of a list
 abbrev pub Among : {A : Type 0} → A → List A → Type 0
 Among x [] = ⊥
 Among x (y ∷ ys) = (y ≡ x) ⊎ Among x ys
-
--- node i; past the last node it is false, so that no bound on i is needed
-abbrev pub node : List Shape → ℕ → Shape
-node ss i = slice_index_or ss i bottom
-
--- what node i mentions
-abbrev pub about : List Shape → ℕ → Vars
-about ss i = slice_index_or (mentions ss) i none
-
--- whether node i is true in a world
-abbrev pub true_at : List Shape → World → ℕ → Bool
-true_at ss w i = slice_index_or (upward (truth w) ss) i false
 
 -- each node's children come before it
 abbrev pub Ordered : List Shape → Type 0

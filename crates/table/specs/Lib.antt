@@ -7,4 +7,4 @@ pub mod Check
 pub mod Facts
 pub mod Whole
 pub mod Count
-pub mod Masks
+pub mod NodeSets

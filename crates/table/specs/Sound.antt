@@ -1,9 +1,9 @@
 -- Which circuits are sound: the refusals of a node, and the first that fits.
-use Rattle.std.specs.Prelude.{ℕ, ◌+◌, ◌-◌, Bool, true, false, not, ◌&&◌, List, [], ◌∷◌, length, Some, None, Option, ◌==◌, nat_le, nat_lt, slice_index_or, if◌then◌else◌}
+use Rattle.std.specs.Prelude.{ℕ, ◌+◌, ◌-◌, Bool, true, false, not, ◌&&◌, List, [], ◌∷◌, length, Some, None, Option, ◌==◌, nat_le, nat_lt, if◌then◌else◌}
 use Rattle.std.specs.List.{list_all, list_any, range_with_len}
 use Rattle.table.specs.declared.fault.Flaw.{Flaw}
 use Rattle.table.specs.declared.fault.Flaw.TheVariants as flaw
-use Rattle.table.specs.Circuit.{Shape, lit, all, fork, bottom, Vars, same, mentions}
+use Rattle.table.specs.Circuit.{Shape, lit, all, fork, Vars, same, node, about}
 
 -- whether each of the variables, by number from 1, is an option; the others are chances
 abbrev pub Roles : Type 0
@@ -26,10 +26,6 @@ options rs = from 1 true rs
 abbrev pub chances : Roles → List ℕ
 chances rs = from 1 false rs
 
--- the empty set of variables
-abbrev pub none : Vars
-none = λ _. false
-
 -- whether a node is the literal of v that is on (or off)
 abbrev pub is_literal : ℕ → Bool → Shape → Bool
 is_literal v b (lit x on) = x == v && same on b
@@ -37,7 +33,7 @@ is_literal v b s = false
 
 -- whether a node is that literal, or an and with that literal among its children
 abbrev pub has_literal : List Shape → ℕ → Bool → Shape → Bool
-has_literal ss v b (all cs) = list_any (λ c. is_literal v b (slice_index_or ss c bottom)) cs
+has_literal ss v b (all cs) = list_any (λ c. is_literal v b (node ss c)) cs
 has_literal ss v b s = is_literal v b s
 
 -- whether no variable of vs is in both sets
@@ -45,9 +41,9 @@ abbrev pub disjoint : List ℕ → Vars → Vars → Bool
 disjoint vs a b = list_all (λ v. not (a v && b v)) vs
 
 -- whether the nodes cs are decomposable: no two of them mention one variable of vs
-abbrev pub apart : List ℕ → List Vars → List ℕ → Bool
-apart vs ms [] = true
-apart vs ms (c ∷ cs) = list_all (λ d. disjoint vs (slice_index_or ms c none) (slice_index_or ms d none)) cs && apart vs ms cs
+abbrev pub apart : List ℕ → List Shape → List ℕ → Bool
+apart vs ss [] = true
+apart vs ss (c ∷ cs) = list_all (λ d. disjoint vs (about ss c) (about ss d)) cs && apart vs ss cs
 
 -- whether two sets have the same variables of vs
 abbrev pub alike : List ℕ → Vars → Vars → Bool
@@ -86,23 +82,23 @@ flaw_first i None rest = rest
 flaw_first i (Some f) rest = flawed f i
 
 module _ (rs : Roles) (ss : List Shape) where
-  -- the first flaw of node i, with the sets ms of what the nodes mention
-  abbrev pub flaw_at : List Vars → ℕ → Shape → Option Flaw
-  flaw_at ms i (lit v b) = unless (known (length rs) v) flaw.Variable None
-  flaw_at ms i (all cs) =
-      unless (list_all (is_below i) cs) flaw.Order (unless (apart (range_with_len 1 (length rs)) ms cs) flaw.Shared None)
-  flaw_at ms i (fork v a b) =
+  -- the first flaw of node i
+  abbrev pub flaw_at : ℕ → Shape → Option Flaw
+  flaw_at i (lit v b) = unless (known (length rs) v) flaw.Variable None
+  flaw_at i (all cs) =
+      unless (list_all (is_below i) cs) flaw.Order (unless (apart (range_with_len 1 (length rs)) ss cs) flaw.Shared None)
+  flaw_at i (fork v a b) =
       unless (nat_lt a i && nat_lt b i) flaw.Order
       (unless (known (length rs) v) flaw.Variable
-      (unless (has_literal ss v true (slice_index_or ss a bottom) && has_literal ss v false (slice_index_or ss b bottom)) flaw.Branch
-      (unless (alike (chances rs) (slice_index_or ms a none) (slice_index_or ms b none)) flaw.Uneven None)))
-  flaw_at ms i s = None
+      (unless (has_literal ss v true (node ss a) && has_literal ss v false (node ss b)) flaw.Branch
+      (unless (alike (chances rs) (about ss a) (about ss b)) flaw.Uneven None)))
+  flaw_at i s = None
 
   -- the first flaw of the nodes in order, from node i on; the root, which is last, must mention every chance
-  unfoldable pub verdict_from : List Vars → ℕ → List Shape → Verdict
-  verdict_from ms i [] = if list_all (slice_index_or ms (length ss - 1) none) (chances rs) then sound else flawed flaw.Missing (length ss - 1)
-  verdict_from ms i (x ∷ xs) = flaw_first i (flaw_at ms i x) (verdict_from ms (i + 1) xs)
+  unfoldable pub verdict_from : ℕ → List Shape → Verdict
+  verdict_from i [] = if list_all (about ss (length ss - 1)) (chances rs) then sound else flawed flaw.Missing (length ss - 1)
+  verdict_from i (x ∷ xs) = flaw_first i (flaw_at i x) (verdict_from (i + 1) xs)
 
   -- the circuit is sound, or its first flaw
   abbrev pub verdict : Verdict
-  verdict = verdict_from (mentions ss) 0 ss
+  verdict = verdict_from 0 ss

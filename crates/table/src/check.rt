@@ -1,16 +1,13 @@
 //! The check of a table: its limits, then each node, then the root.
 ghost use Rattle.std.specs.Prelude.{◌≡◌, ◌≤◌, true, length, is_ok, Decides};
-ghost use Rattle.table.specs.Sound.{verdict};
 ghost use Rattle.table.specs.Nodes.{shapes, roles_of};
-ghost use Rattle.table.specs.Masks.{mentions_in};
-ghost use Rattle.table.specs.Check.{counts_within, answer_by, check_says};
+ghost use Rattle.table.specs.NodeSets.{mentions_in};
+ghost use Rattle.table.specs.Check.{counts_within, circuit_says, check_says};
 ghost use Rattle.table.specs.Facts.{Accepts, Means};
 
 use crate::fault::{Fault, Flaw};
-use crate::known::NodeSets;
-use crate::mentions::Mentions;
 use crate::node::Before;
-use crate::sets::chance_set;
+use crate::sets::{Mentions, NodeSets, chance_set};
 use text::fault::{Fault as TextFault, Reason};
 use text::record::{Node, Variables};
 
@@ -46,11 +43,10 @@ fn counts_within(nodes: &[Node], variables: &Variables) -> bool
 fn check_nodes(nodes: &[Node], children: &[u16], variables: &Variables) -> Result<Mentions, Fault>
     requires some { 1 ≤ length nodes.now }
     requires few { length nodes.now ≤ 4096 }
-    ensures { result ≡ answer_by (roles_of variables.now) (shapes children.now nodes.now) (verdict (roles_of variables.now) (shapes children.now nodes.now)) }
+    ensures { result ≡ circuit_says (roles_of variables.now) (shapes children.now nodes.now) }
 {
     let count = variables.as_slice().len();
     let chances = chance_set(variables);
-    // An array for the largest table: the engine has no heap.
     let mut known = [NodeSets::default(); 4096];
     for (i, node) in nodes.iter().enumerate() {
         let before = Before {

@@ -1,4 +1,6 @@
 //! Why a table is refused.
+ghost use Rattle.std.specs.Prelude.{◌≡◌};
+ghost use Rattle.table.specs.declared.fault.Fault.TheVariants.{Text};
 ghost use Rattle.table.specs.Faults.{fault_number, fault_place, fault_layer};
 
 use text::fault::{Fault as TextFault, Layer, Refusal};
@@ -25,6 +27,14 @@ pub enum Flaw {
 pub enum Fault {
     Text(TextFault),
     Node { flaw: Flaw, node: usize },
+}
+
+impl From<TextFault> for Fault {
+    ghost from_gives = { λ f e. e ≡ Text f };
+
+    fn from(fault: TextFault) -> Fault {
+        Fault::Text(fault)
+    }
 }
 
 impl Refusal for Fault {

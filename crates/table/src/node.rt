@@ -2,11 +2,10 @@
 ghost use Rattle.std.specs.Prelude.{◌≡◌, ◌≤◌, true, length, None};
 ghost use Rattle.table.specs.Sound.{known, unless};
 ghost use Rattle.table.specs.Nodes.{shape};
-ghost use Rattle.table.specs.Masks.{and_flaw, fork_flaw, flaw_by, steady, sets_by};
+ghost use Rattle.table.specs.NodeSets.{and_flaw, fork_flaw, flaw_by, in_range, sets_by};
 
 use crate::fault::Flaw;
-use crate::known::NodeSets;
-use crate::sets::{all_apart, all_below, bit_of, child, is_known, stretch_of};
+use crate::sets::{NodeSets, all_apart, all_below, bit_of, child, is_known, stretch_of};
 use text::record::{Form, Node};
 
 /// What a node is judged by: what is known of the nodes before it, how many variables there are, and
@@ -78,7 +77,7 @@ impl Before<'_> {
 
     /// What is known of a node that has no flaw.
     pub(crate) fn sets_of(&self, node: Node, nodes: &[Node], children: &[u16]) -> NodeSets
-        requires steady { steady 64 (length self.now.nodes.now) (shape children.now node) ≡ true }
+        requires in_range { in_range 64 (length self.now.nodes.now) (shape children.now node) ≡ true }
         requires within { length self.now.nodes.now ≤ length nodes.now }
         ensures { result ≡ sets_by nodes.now self.now.nodes.now (shape children.now node) }
     {

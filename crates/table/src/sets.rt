@@ -4,79 +4,27 @@ ghost use Rattle.std.specs.List.{list_all};
 ghost use Rattle.text.specs.Format.{is_option_role};
 ghost use Rattle.table.specs.Sound.{known, is_below};
 ghost use Rattle.table.specs.Nodes.{no_node, stretch, roles_of};
-ghost use Rattle.table.specs.Masks.{bit, has_bit, chance_mask, apart_masks, nothing, literal_sets, with_child, with_children};
+ghost use Rattle.table.specs.NodeSets.{apart_masks, nothing, literal_sets, with_child, with_children};
+ghost use Rattle.table.specs.Sets.{bit, has_bit, chance_mask};
 
-use crate::known::NodeSets;
 use text::record::{Form, Node, Role, Variables};
 
 /// A number that no node has: there are at most 4096 nodes.
-// Not an Option: a shape names its children by number, also where a record names none.
 const NO_NODE: u16 = 65535;
 
-/// Whether a variable is one of `count`.
-pub(crate) fn is_known(variable: u16, count: usize) -> bool
-    ensures { result ≡ known count variable }
-{
-    variable > 0 && variable as usize <= count
+/// For each node the set of variables that it mentions.
+#[derive(Clone, Copy)]
+pub struct Mentions {
+    pub sets: [u64; 4096],
 }
 
-// That a variable is one of 64 stands here and in two functions more: node records give plain numbers,
-// and a type for it would be made and opened at each use.
-/// The set of one variable.
-pub(crate) fn bit_of(variable: u16) -> u64
-    requires { (0 < variable) × (variable ≤ 64) }
-    ensures { result ≡ bit variable }
-{
-    1 << (variable - 1)
-}
-
-/// Whether a set has a variable.
-pub fn contains(set: u64, variable: u16) -> bool
-    requires { (0 < variable) × (variable ≤ 64) }
-    ensures { result ≡ has_bit variable set }
-{
-    set & bit_of(variable) != 0
-}
-
-/// The set of the chances.
-pub(crate) fn chance_set(variables: &Variables) -> u64
-    ensures { result ≡ chance_mask (roles_of variables.now) }
-{
-    variables.as_slice().iter().rev().fold(
-        0,
-        |set, variable| set << 1 | u64::from(is_chance(variable.role)),
-    )
-}
-
-/// Whether a role is a chance's.
-fn is_chance(role: Role) -> bool
-    ensures { result ≡ not (is_option_role role) }
-{
-    matches!(role, Role::Chance)
-}
-
-/// Whether each child's number is below the node's.
-pub(crate) fn all_below(children: &[u16], node: usize) -> bool
-    ensures { result ≡ list_all (is_below node) children.now }
-{
-    children.iter().all(|c| (*c as usize) < node)
-}
-
-/// Whether no two children mention one variable.
-pub(crate) fn all_apart(children: &[u16], before: &[NodeSets]) -> bool
-    requires { list_all (is_below (length before.now)) children.now ≡ true }
-    ensures { result ≡ apart_masks 0 before.now children.now }
-{
-    // A loop, and no `all`: its test would have to change what was seen.
-    let mut seen = 0;
-    for c in children {
-        let set = before[*c as usize].mentions;
-        if seen & set != 0 {
-            return false;
-        }
-        seen |= set;
-    }
-    true
+/// What is known of a node that has no flaw: the set of variables that it mentions, and those whose
+/// on literal, or off literal, it has, as a literal or as an and with that child.
+#[derive(Clone, Copy, Default)]
+pub(crate) struct NodeSets {
+    pub(crate) mentions: u64,
+    pub(crate) on: u64,
+    pub(crate) off: u64,
 }
 
 impl NodeSets {
@@ -125,6 +73,69 @@ impl NodeSets {
             }
         }
     }
+}
+
+/// Whether a variable is one of `count`.
+pub(crate) fn is_known(variable: u16, count: usize) -> bool
+    ensures { result ≡ known count variable }
+{
+    variable > 0 && variable as usize <= count
+}
+
+/// The set of one variable.
+pub(crate) fn bit_of(variable: u16) -> u64
+    requires { (0 < variable) × (variable ≤ 64) }
+    ensures { result ≡ bit variable }
+{
+    1 << (variable - 1)
+}
+
+/// Whether a set has a variable.
+pub fn contains(set: u64, variable: u16) -> bool
+    requires { (0 < variable) × (variable ≤ 64) }
+    ensures { result ≡ has_bit variable set }
+{
+    set & bit_of(variable) != 0
+}
+
+/// The set of the chances.
+pub(crate) fn chance_set(variables: &Variables) -> u64
+    ensures { result ≡ chance_mask (roles_of variables.now) }
+{
+    variables.as_slice().iter().rev().fold(
+        0,
+        |set, variable| set << 1 | u64::from(is_chance(variable.role)),
+    )
+}
+
+/// Whether a role is a chance's.
+fn is_chance(role: Role) -> bool
+    ensures { result ≡ not (is_option_role role) }
+{
+    matches!(role, Role::Chance)
+}
+
+/// Whether each child's number is below the node's.
+pub(crate) fn all_below(children: &[u16], node: usize) -> bool
+    ensures { result ≡ list_all (is_below node) children.now }
+{
+    children.iter().all(|c| (*c as usize) < node)
+}
+
+/// Whether no two children mention one variable.
+pub(crate) fn all_apart(children: &[u16], before: &[NodeSets]) -> bool
+    requires { list_all (is_below (length before.now)) children.now ≡ true }
+    ensures { result ≡ apart_masks 0 before.now children.now }
+{
+    let mut seen = 0;
+    for c in children {
+        let set = before[*c as usize].mentions;
+        if seen & set != 0 {
+            return false;
+        }
+        seen |= set;
+    }
+    true
 }
 
 /// The number of a child, or one that no node has.

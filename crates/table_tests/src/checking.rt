@@ -5,7 +5,7 @@ use std::fmt::Display;
 use std::process::Abort;
 use std::test::Fail;
 use table::check::check as check_table;
-use table::mentions::Mentions;
+use table::sets::Mentions;
 use text::fault::{Layer, Refusal};
 use text::record::{Node, Variables};
 

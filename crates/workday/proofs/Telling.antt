@@ -6,7 +6,7 @@ use Rattle.parts.specs.Parts.{check_parts, largest, read_from, ArePartsOf}
 use Rattle.parts.specs.declared.stores.Parts.{Parts}
 use Rattle.table.specs.Check.{check_says}
 use Rattle.table.specs.declared.fault.Fault as table
-use Rattle.table.specs.declared.mentions.Mentions.{Mentions}
+use Rattle.table.specs.declared.sets.Mentions.{Mentions}
 use Rattle.workday.specs.Told.{check_refusal, read_refusal, refusal_of, SaysRefusal}
 
 -- a file that was read

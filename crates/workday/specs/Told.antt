@@ -7,7 +7,7 @@ use Rattle.text.specs.declared.record.Contents.{Contents}
 use Rattle.table.specs.Check.{check_says}
 use Rattle.table.specs.declared.fault.Fault as table
 use Rattle.table.specs.declared.fault.Fault.TheVariants.{Text}
-use Rattle.table.specs.declared.mentions.Mentions.{Mentions}
+use Rattle.table.specs.declared.sets.Mentions.{Mentions}
 use Rattle.search.specs.declared.fault.Fault.{Fault}
 use Rattle.search.specs.declared.fault.Fault.TheVariants.{Table}
 use Rattle.workday.specs.Words.{refusal_words}

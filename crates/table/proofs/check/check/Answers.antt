@@ -1,7 +1,7 @@
 use Rattle.std.proofs.Common.{◌≡◌, ℕ, true, List, is_ok, Decides, Result, sym, ◌∙◌, subst, arith}
 use Rattle.text.specs.declared.record.Node.{Node}
 use Rattle.text.specs.declared.record.Variables.{Variables}
-use Rattle.table.specs.declared.mentions.Mentions.{Mentions}
+use Rattle.table.specs.declared.sets.Mentions.{Mentions}
 use Rattle.table.specs.declared.fault.Fault.{Fault}
 use Rattle.table.specs.Check.{check_says}
 use Rattle.table.specs.Facts.{Accepts, Means}

@@ -3,8 +3,8 @@ use Rattle.std.proofs.Math.ListN.{get_or-map as get_or-mapped}
 use Rattle.std.proofs.lemmas.Grind.{same_number_lists}
 use Rattle.std.proofs.lemmas.Bool.{cases_lt}
 use Rattle.std.proofs.lemmas.List.{get_or_past, get_or-replicate, get_or_append_left, get_or-append_right, length-append, length-map, length-replicate}
-use Rattle.table.specs.declared.known.NodeSets.{NodeSets}
-use Rattle.table.specs.Masks.{nothing}
+use Rattle.table.specs.declared.sets.NodeSets.{NodeSets}
+use Rattle.table.specs.NodeSets.{nothing}
 use Rattle.table.proofs.check.mentions_of.Invariants.{Filled}
 use Rattle.table.proofs.check.mentions_of.Goals as goal
 

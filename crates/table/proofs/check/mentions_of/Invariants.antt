@@ -1,6 +1,6 @@
 use Rattle.std.proofs.Common.{◌≡◌, ℕ, ◌<◌, ◌≤◌, List, length, get_or}
-use Rattle.table.specs.declared.known.NodeSets.{NodeSets}
-use Rattle.table.specs.Masks.{nothing}
+use Rattle.table.specs.declared.sets.NodeSets.{NodeSets}
+use Rattle.table.specs.NodeSets.{nothing}
 use Rattle.table.proofs.check.mentions_of.Given as goal
 
 pub record Filled (known : List NodeSets) (i : ℕ) (sets : List ℕ) : Type 0 where

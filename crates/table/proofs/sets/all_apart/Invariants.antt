@@ -1,8 +1,8 @@
 use Rattle.std.specs.List.{list_all}
 use Rattle.std.proofs.Common.{◌≡◌, ℕ, true, List, length, drop}
-use Rattle.table.specs.declared.known.NodeSets.{NodeSets}
+use Rattle.table.specs.declared.sets.NodeSets.{NodeSets}
 use Rattle.table.specs.Sound.{is_below}
-use Rattle.table.specs.Masks.{apart_masks}
+use Rattle.table.specs.NodeSets.{apart_masks}
 use Rattle.table.proofs.sets.all_apart.Given as goal
 
 pub record Left (seen i : ℕ) (children : List ℕ) (before : List NodeSets) : Type 0 where

@@ -3,7 +3,7 @@ use Rattle.std.specs.List.{fold}
 use Rattle.std.proofs.iter.runs.Made.{chains}
 use Rattle.std.proofs.lemmas.Bool.{and_parts, leb-true, ltb-true}
 use Rattle.std.proofs.lemmas.List.{get_or-map}
-use Rattle.table.specs.Masks.{has_bit}
+use Rattle.table.specs.Sets.{has_bit}
 use Rattle.passes.specs.Holding.{is_free}
 use Rattle.passes.specs.declared.holds.Entry.TheVariants.{Free}
 use Rattle.table.proofs.Bits.{set_step, fold_bits, has_bit_of_bits}

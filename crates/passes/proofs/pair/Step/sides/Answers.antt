@@ -1,6 +1,6 @@
 use Rattle.std.proofs.Common.{get_or, sym}
 use Rattle.std.proofs.lemmas.List.{get_or_default}
-use Rattle.table.specs.Masks.{no_record}
+use Rattle.table.specs.NodeSets.{no_record}
 use Rattle.passes.proofs.Reading.{node_ranged, node_readable}
 use Rattle.passes.proofs.pair.Step.sides.Goals as goal
 

@@ -3,7 +3,7 @@ use Rattle.std.specs.List.{fold}
 use Rattle.std.proofs.iter.runs.Made.{chains}
 use Rattle.std.proofs.lemmas.Bool.{and_parts, ltb-true}
 use Rattle.text.specs.Format.{listed}
-use Rattle.table.specs.Masks.{has_bit}
+use Rattle.table.specs.Sets.{has_bit}
 use Rattle.text.specs.Format.{is_option_role}
 use Rattle.table.specs.Sound.{is_option}
 use Rattle.table.specs.Whole.{roles}
