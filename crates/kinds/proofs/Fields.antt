@@ -1,15 +1,12 @@
 -- A text cut at its tabs.
 use Rattle.std.proofs.Common.{◌≡◌, ℕ, zero, suc, ◌+◌, ◌-◌, ◌<◌, ◌≤◌, true, false, cond, eqb, List, [], ◌∷◌, ◌++◌, length, take, drop, Some, None, Option, append_assoc, sym, refl, ap, ap₂, ◌∙◌, ◌⊎◌, inl, inr, arith}
 use Rattle.std.specs.List.{join_with_byte, onto_first}
-use Rattle.std.proofs.lemmas.List.Splits.{join_with_byte-slice_split, length-slice_split}
+use Rattle.std.proofs.lemmas.List.Splits.{join_with_byte-slice_split}
 use Rattle.std.proofs.lemmas.Bool.{cases_lt}
 use Rattle.std.proofs.lemmas.List.{length-append, take-append-le, take_all, drop_all}
 use Rattle.text.specs.Lines.{fields}
 use Rattle.text.proofs.Cuts.{index_of, IsFirst, index_at}
 use Rattle.kinds.specs.Texts.{fields_from}
-
-pub some_field : (xs : List ℕ) → 0 < length (fields xs)
-some_field xs = omega (arith, length-slice_split (λ b. eqb b 9) xs)
 
 -- the fields of a text, with the tabs between them, are the text
 joined : (xs : List ℕ) → join_with_byte 9 (fields xs) ≡ xs

@@ -5,7 +5,7 @@ use Rattle.text.specs.Format.{Reading, file_says, listed, named_printable}
 use Rattle.text.specs.declared.fault.Fault.{Fault}
 use Rattle.table.specs.Check.{check_says}
 use Rattle.table.specs.declared.fault.Fault as table
-use Rattle.table.specs.declared.mentions.Mentions.{Mentions}
+use Rattle.table.specs.declared.sets.Mentions.{Mentions}
 use Rattle.table.specs.declared.table.Table.{Table}
 use Rattle.parts.specs.declared.stores.Room.{Room}
 use Rattle.parts.specs.declared.stores.Parts.{Parts}

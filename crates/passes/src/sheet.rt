@@ -1,6 +1,6 @@
 //! The sheet: an on and an off weight for each variable.
-ghost use Rattle.std.specs.Prelude.{◌≡◌, ◌*◌, ◌<◌, ◌≤◌, true, false, length, slice_set};
-ghost use Rattle.table.specs.Count.{place, weight};
+ghost use Rattle.std.specs.Prelude.{◌≡◌, ◌*◌, ◌<◌, ◌≤◌, length};
+ghost use Rattle.table.specs.Count.{place, weight, weighed};
 
 use kinds::figure::Figure;
 
@@ -36,7 +36,7 @@ impl<K: Figure> Sheet<'_, K> {
     pub fn weigh(&mut self, variable: u16, on: K, off: K)
         requires { (0 < variable) × (2 * variable ≤ length self.old.figures.now) }
         ensures same { self.new.figures.ghost_name ≡ self.old.figures.ghost_name }
-        ensures after { self.new.figures.now ≡ slice_set (slice_set self.old.figures.now (place variable true) on) (place variable false) off }
+        ensures after { self.new.figures.now ≡ weighed self.old.figures.now variable on off }
     {
         self.figures[place_of(variable, true)] = on;
         self.figures[place_of(variable, false)] = off;

@@ -1,5 +1,5 @@
 -- The text that a program prints for a plant's file: a table file with a weight text behind it.
-use Rattle.std.specs.Prelude.{ℕ, List, [], ◌∷◌, length, drop, replicate, Ok, Err, Result}
+use Rattle.std.specs.Prelude.{ℕ, List, [], ◌∷◌, drop, replicate, Ok, Err, Result}
 use Rattle.kinds.specs.Semiring.{Semiring}
 use Rattle.kinds.specs.Texts.{Notation}
 use Rattle.text.specs.Format.{listed}

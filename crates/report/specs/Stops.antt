@@ -1,5 +1,5 @@
 -- What an answer says of the text that is to be printed.
-use Rattle.std.specs.Prelude.{◌≡◌, List, [], ◌∷◌, Ok, Err, Result, IfOk, string_bytes, String}
+use Rattle.std.specs.Prelude.{◌≡◌, [], ◌∷◌, Ok, Err, Result, IfOk, string_bytes, String}
 use Rattle.std.specs.declared.alloc.AllocError.{AllocError}
 use Rattle.std.specs.declared.alloc.Global.{Global}
 use Rattle.text.specs.Format.{listed}

@@ -8,13 +8,12 @@ use Rattle.kinds.specs.Semiring.{Semiring}
 use Rattle.kinds.specs.Texts.{Notation}
 use Rattle.text.specs.Format.{Said}
 use Rattle.text.specs.Lines.{lines}
-use Rattle.table.specs.Count.{place, weight}
+use Rattle.table.specs.Count.{place, weight, weighed}
 use Rattle.table.specs.Facts.{Known}
 use Rattle.table.specs.Sound.{Roles, known, is_option}
 use Rattle.table.proofs.Decided.{decides_known}
 use Rattle.search.specs.declared.fault.Fault.{Fault}
-use Rattle.search.specs.declared.weighing.Weighing.{Weighing}
-use Rattle.search.specs.Day.{weighed}
+use Rattle.search.specs.declared.weights.Weighing.{Weighing}
 use Rattle.search.specs.Study.{short_sheet, no_chance}
 use Rattle.search.specs.Weights.{WeightReading, form_says, of_chance, weight_line_says, refused, is_closed, with_ones, weight_lines_say, weights_say, by_line, by_lines, Weighs, WeighsAccepted}
 

@@ -8,11 +8,11 @@ use Rattle.text.specs.Lines.{lines, BeginsWithLine}
 use Rattle.text.proofs.Cuts.{index_of, first_line, no_line}
 use Rattle.kinds.specs.Semiring.{Semiring}
 use Rattle.kinds.specs.Texts.{Notation}
+use Rattle.table.specs.Count.{weighed}
 use Rattle.table.specs.Sound.{Roles}
 use Rattle.search.specs.declared.fault.Fault.{Fault}
 use Rattle.search.specs.declared.fault.Fault.TheVariants.{ShortSheet}
-use Rattle.search.specs.declared.weighing.Weighing.{Weighing}
-use Rattle.search.specs.Day.{weighed}
+use Rattle.search.specs.declared.weights.Weighing.{Weighing}
 use Rattle.search.specs.Weights.{WeightReading, read, refused, in_text, weight_line_says, is_closed, weight_lines_say, weights_say}
 
 -- what was written to the first places

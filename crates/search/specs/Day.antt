@@ -1,8 +1,8 @@
 -- The working day: a list of calls on one new study, and the book that is kept of it.
-use Rattle.std.specs.Prelude.{◌≡◌, ℕ, ◌≤◌, true, false, List, [], ◌∷◌, length, take, Ok, Err, Result, slice_set}
+use Rattle.std.specs.Prelude.{◌≡◌, ℕ, ◌≤◌, true, List, [], ◌∷◌, length, take, Ok, Err, Result}
 use Rattle.kinds.specs.Semiring.{Semiring}
 use Rattle.table.specs.Circuit.{Shape}
-use Rattle.table.specs.Count.{place}
+use Rattle.table.specs.Count.{weighed}
 use Rattle.table.specs.Facts.{Among}
 use Rattle.table.specs.Sound.{Roles}
 use Rattle.table.specs.Whole.{circuit, roles}
@@ -57,10 +57,6 @@ study_of t pick work = record { roles = roles t; circuit = circuit t; pick = pic
 -- what is asked of the passes, by the book
 abbrev pub problem_by : {F : Type 0} → Study F → Book F → Problem F
 problem_by s b = record { roles = s.roles; circuit = s.circuit; sheet = b.sheet; holds = b.holds }
-
--- the sheet with the two weights of a variable written
-abbrev pub weighed : {F : Type 0} → List F → ℕ → F → F → List F
-weighed sheet v on off = slice_set (slice_set sheet (place v true) on) (place v false) off
 
 -- The replies of accepted calls.
 

@@ -13,12 +13,11 @@ use Rattle.text.specs.Lines.{printable, lines, fields}
 use Rattle.table.specs.declared.fault.Fault.TheVariants as table_fault
 use Rattle.kinds.specs.Semiring.{Semiring}
 use Rattle.kinds.specs.Texts.{Notation, figure_at}
-use Rattle.table.specs.Count.{weight}
+use Rattle.table.specs.Count.{weight, weighed}
 use Rattle.table.specs.Sound.{Roles, known}
 use Rattle.search.specs.declared.fault.Fault.{Fault}
 use Rattle.search.specs.declared.fault.Fault.TheVariants.{Table, ShortSheet, WeightLine}
-use Rattle.search.specs.declared.weighing.Weighing.{Weighing}
-use Rattle.search.specs.Day.{weighed}
+use Rattle.search.specs.declared.weights.Weighing.{Weighing}
 use Rattle.search.specs.Study.{short_sheet, no_chance}
 
 -- One line.

@@ -17,5 +17,4 @@ pub mod strongest_lean;
 pub mod study;
 mod trail;
 pub mod trial;
-mod weighing;
 pub mod weights;

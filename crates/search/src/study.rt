@@ -1,10 +1,10 @@
 //! The calls of a study on its holds and its sheet. A refused call changes nothing.
 ghost use Rattle.std.specs.Prelude.{◌≡◌};
+ghost use Rattle.table.specs.Count.{weighed};
 ghost use Rattle.table.specs.Whole.{roles};
 ghost use Rattle.passes.specs.Marks.{with_entry, held};
 ghost use Rattle.passes.specs.declared.holds.Entry.TheVariants.{Free};
 ghost use Rattle.search.specs.Calls.{asked};
-ghost use Rattle.search.specs.Day.{weighed};
 ghost use Rattle.search.specs.Study.{answered, changed_to, hold_tests, release_tests, weigh_tests};
 
 use crate::fault::Fault;

@@ -6,7 +6,6 @@ ghost use Rattle.search.specs.Weights.{is_weight_line, form_says, weight_line_sa
 
 use crate::fault::Fault;
 use crate::requirements::{require_chance, require_sheet};
-use crate::weighing::Weighing;
 use kinds::figure::Figure;
 use kinds::line::figure_at;
 use kinds::written::Written;
@@ -15,6 +14,14 @@ use table::table::Table;
 use text::fault::{Fault as TextFault, Reason};
 use text::fields::{all_printable, field, field_count, first_line};
 use text::lines::number_field;
+
+/// A variable's number, and its on and off weight.
+#[derive(Drop)]
+struct Weighing<K> {
+    variable: u16,
+    on: K,
+    off: K,
+}
 
 /// Whether a line has its bytes, its letter and so many fields.
 fn is_weight_line(text: &[u8], count: usize) -> bool

@@ -1,5 +1,5 @@
 -- A selection's figure: the weighted model count.
-use Rattle.std.specs.Prelude.{ℕ, ◌-◌, ◌*◌, Bool, true, false, List, [], ◌∷◌, ◌==◌, slice_index_or, if◌then◌else◌}
+use Rattle.std.specs.Prelude.{ℕ, ◌-◌, ◌*◌, Bool, true, false, List, [], ◌∷◌, ◌==◌, slice_index_or, slice_set, if◌then◌else◌}
 use Rattle.kinds.specs.Semiring.{Semiring}
 use Rattle.table.specs.Circuit.{Shape, World, satisfied}
 use Rattle.table.specs.Sound.{Roles, chances}
@@ -11,6 +11,10 @@ put w v b = λ x. if x == v then b else w x
 -- where the weight of a side of variable v stands in a sheet: the on weight at place 2v-2, the off weight at 2v-1
 abbrev pub place : ℕ → Bool → ℕ
 place v b = if b then 2 * v - 2 else 2 * v - 1
+
+-- a sheet with the two weights of a variable written
+abbrev pub weighed : {F : Type 0} → List F → ℕ → F → F → List F
+weighed sheet v on off = slice_set (slice_set sheet (place v true) on) (place v false) off
 
 module _ {F : Type 0} (R : Semiring F) where
   -- the sum of f over every setting of the variables vs, the others as in w

@@ -35,7 +35,7 @@ no_line (x ∷ xs) h =
 abbrev pub IsFirst : ℕ → List ℕ → Option ℕ → Type 0
 IsFirst b xs r = MatchOption r (AllWithin (λ x. x ≡ b → ⊥) xs 0 (length xs)) (λ i. (i < length xs) × HoldsAt (λ x. x ≡ b) xs i × AllWithin (λ x. x ≡ b → ⊥) xs 0 i)
 
-index_at : (b : ℕ) (xs : List ℕ) (r : Option ℕ) → IsFirst b xs r → index_of b xs ≡ unwrap_or r (length xs)
+pub index_at : (b : ℕ) (xs : List ℕ) (r : Option ℕ) → IsFirst b xs r → index_of b xs ≡ unwrap_or r (length xs)
 index_at b xs r h =
     index_from_first (index_of b) (λ x. x ≡ b) (λ x. x ≡ b → ⊥) refl (λ x ys e. cond-true (eqb x b) 0 _ (eq-eqb x b e))
     (λ x ys n. cond-false (eqb x b) 0 _ (ne_eqb x b n) ∙ sym (add-one (index_of b ys))) xs r h

@@ -4,7 +4,8 @@ use Rattle.std.proofs.lemmas.List.{take_rest}
 use borrow.Author.Tests.{tests}
 use Rattle.text.specs.Lines.{fields}
 use Rattle.text.proofs.Cuts.{IsFirst}
-use Rattle.kinds.proofs.Fields.{some_field, no_tab, tab_at, dropped_more}
+use Rattle.text.proofs.Cuts.{some_field}
+use Rattle.kinds.proofs.Fields.{no_tab, tab_at, dropped_more}
 use Rattle.kinds.proofs.line.+behind_fields.Goals as goal
 use Rattle.kinds.proofs.line.+behind_fields.Goals.{After-position, After-behind_fields}
 
