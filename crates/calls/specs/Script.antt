@@ -41,8 +41,8 @@ setup_says l =
 
 -- The line of a call: its word, and what that word wants. A word names a side.
 
-abbrev pub side_of : List ℕ → Option Bool
-side_of w = if bytes_eq w (codes "on") then Some true else (if bytes_eq w (codes "off") then Some false else None)
+abbrev pub side_named : List ℕ → Option Bool
+side_named w = if bytes_eq w (codes "on") then Some true else (if bytes_eq w (codes "off") then Some false else None)
 
 -- whether a line has this word, and so many fields
 abbrev pub is_call : List ℕ → ℕ → List ℕ → Bool
@@ -50,7 +50,7 @@ is_call word count l = bytes_eq (field_at 1 l) word && length (fields l) == coun
 
 -- the number of an option and a side, for hold and for trial
 abbrev pub sided : List ℕ → Option (ℕ × Bool)
-sided l = option_then (number (field_at 2 l)) (λ v. option_then (side_of (field_at 3 l)) (λ s. Some (v, s)))
+sided l = option_then (number (field_at 2 l)) (λ v. option_then (side_named (field_at 3 l)) (λ s. Some (v, s)))
 
 module _ {F : Type 0} (N : Notation F) where
   -- the number of a chance and its two weights

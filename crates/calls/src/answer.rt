@@ -1,5 +1,5 @@
 //! What the program prints.
-ghost use Rattle.calls.specs.Calls.{calls_report, calls as calls_of};
+ghost use Rattle.calls.specs.Calls.{calls_report, sizes_of, calls as calls_of};
 ghost use Rattle.report.specs.Stops.{Spells};
 
 use crate::lines::setup_line;
@@ -59,7 +59,7 @@ fn set_up<K: Written, O: BranchingOrder<K>>(
     setup: Setup,
     text: &[u8],
 ) -> Result<String, AllocError>
-    ensures { Spells (calls_report K.ring K.notation (O.picks order.now) setup.sheet setup.work text.now) result }
+    ensures { Spells (calls_report K.ring K.notation (O.picks order.now) (sizes_of setup) text.now) result }
 {
     let sizes = Sizes {
         sheet: usize::from(setup.sheet),

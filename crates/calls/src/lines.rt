@@ -1,6 +1,6 @@
 //! What the first line of a script and a line of a call say.
 ghost use Rattle.std.specs.Prelude.{◌≡◌};
-ghost use Rattle.calls.specs.Script.{kind_of, order_of, side_of, setup_says, is_call, sided, weigh_says, call_says};
+ghost use Rattle.calls.specs.Script.{kind_of, order_of, side_named, setup_says, is_call, sided, weigh_says, call_says};
 
 use crate::setup::{Kind, Order, Setup};
 use kinds::line::figure_at;
@@ -55,7 +55,7 @@ pub fn setup_line(line: &[u8]) -> Option<Setup>
 
 /// The side that a word names.
 fn side(word: &[u8]) -> Option<bool>
-    ensures { result ≡ side_of word.now }
+    ensures { result ≡ side_named word.now }
 {
     match word {
         b"on" => Some(true),

@@ -16,13 +16,13 @@ pub record Problem (F : Type 0) : Type 0 where
   pub sheet : List F
   pub holds : Entries
 
--- a table's problem, with holds and weights
-abbrev pub problem_of : {F : Type 0} → Table → Entries → List F → Problem F
-problem_of t h sheet = record { roles = roles t; circuit = circuit t; sheet = sheet; holds = h }
+-- a table's problem, with weights and holds
+abbrev pub problem_of : {F : Type 0} → Table → List F → Entries → Problem F
+problem_of t sheet h = record { roles = roles t; circuit = circuit t; sheet = sheet; holds = h }
 
 -- a query's problem
 abbrev pub problem : {F : Type 0} → Query F → Problem F
-problem q = problem_of q.table.now q.holds.now.entries q.sheet.now
+problem q = problem_of q.table.now q.sheet.now q.holds.now.entries
 
 -- the same under other holds
 abbrev pub under_holds : {F : Type 0} → Problem F → Entries → Problem F

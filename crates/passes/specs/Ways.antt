@@ -42,12 +42,12 @@ module _ {F : Type 0} (R : Semiring F) where
 
   module _ (p : Problem F) where
     -- what a literal counts: a chance's its weight, an option's one if it is taken, else zero
-    abbrev pub literal_of : ℕ → Bool → (taken : Bool) → F
-    literal_of v on taken = if is_option p.roles v then indicator taken else weight R p.sheet v on
+    abbrev pub literal_value : ℕ → Bool → (taken : Bool) → F
+    literal_value v on taken = if is_option p.roles v then indicator taken else weight R p.sheet v on
 
     -- the way of the counting pass, and that of the plain pass
     abbrev pub count_way : World → Way F
-    count_way w = sums (λ v on. literal_of v on (same (w v) on))
+    count_way w = sums (λ v on. literal_value v on (same (w v) on))
 
     abbrev pub plain_way : Way F
     plain_way = record {

@@ -161,7 +161,6 @@ impl<K: Figure> Step<'_, '_, '_, K> {
             return None;
         }
         let mut least = None;
-        // By index: the places are also those that the children's parts are read at.
         for (j, &variable) in self.options.iter().enumerate() {
             let place = 2 * j + 1;
             if self.is_open(variable) {
@@ -238,7 +237,6 @@ impl<K: Figure> Query<'_, K> {
     {
         let stride = stride(self.table);
         let free = self.table.option_set() & self.holds.free_set();
-        // By number: what `write_part` asks of a node, and of those before it, goes by its number.
         for node in 0..self.table.nodes.len() {
             let (places, rest) = work.split_at_mut(node * stride);
             self.write_part(options, free, node, places, &mut rest[..stride]);

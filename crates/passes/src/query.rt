@@ -20,7 +20,7 @@ pub struct Query<'a, K> {
 
 impl<K: Figure> Query<'_, K> {
     ghost use Rattle.passes.specs.Problem.{problem};
-    ghost use Rattle.passes.specs.Ways.{literal_of};
+    ghost use Rattle.passes.specs.Ways.{literal_value};
 
     /// A variable's on (or off) weight.
     pub(crate) fn weight(&self, variable: u16, on: bool) -> K
@@ -33,7 +33,7 @@ impl<K: Figure> Query<'_, K> {
     /// What a literal counts: a chance's its weight, an option's one if it is taken, else zero.
     pub(crate) fn literal(&self, variable: u16, on: bool, taken: bool) -> K
         requires { known (length (roles self.now.table.now)) variable ≡ true }
-        ensures { result ≡ literal_of K.ring (problem self.now) variable on taken }
+        ensures { result ≡ literal_value K.ring (problem self.now) variable on taken }
     {
         if !self.table.has_option(variable) {
             self.weight(variable, on)

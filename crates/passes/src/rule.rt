@@ -68,7 +68,6 @@ impl<K: Figure> Query<'_, K> {
         requires room { length (circuit self.now.table.now) ≤ length work.old }
         ensures { work.new ≡ walk_left K.ring (W.way rule.now self.now) (circuit self.now.table.now) work.old }
     {
-        // By number: what `node_at` asks of a node, and of the values before it, goes by its number.
         for number in 0..self.table.nodes.len() {
             let values = NodeValues {
                 places: &work[..number],

@@ -12,12 +12,13 @@ use Rattle.table.specs.Check.{check_says}
 use Rattle.table.specs.Nodes.{roles_of, shapes}
 use Rattle.table.specs.declared.sets.Mentions.{Mentions}
 use Rattle.parts.specs.Parts.{largest, read_from}
-use Rattle.search.specs.Day.{Book, Study, Answer, Day, new, answers}
+use Rattle.search.specs.Day.{Book, FixedParts, Answer, Day, new, answers}
 use Rattle.search.specs.Orders.{Order}
 use Rattle.search.specs.Weights.{weights_say}
 use Rattle.search.specs.declared.call.Call.{Call}
 use Rattle.search.specs.declared.call.Reply.{Reply}
 use Rattle.search.specs.declared.call.Reply.TheVariants.{Done, Value, Chosen}
+use Rattle.report.specs.declared.day.Sizes.{Sizes}
 use Rattle.report.specs.Report.{refusal, selection_line}
 use Rattle.report.specs.Plant.{unless_file_refused, unless_weights_refused}
 
@@ -37,16 +38,16 @@ module _ {F : Type 0} (N : Notation F) (vs : List Variable) where
   answer_lines given = map answer_line given
 
 -- for a sheet and a work table of so many figures, and these calls
-module _ {F : Type 0} (R : Semiring F) (N : Notation F) (pick : Order F) (sheet-size work-size : ℕ) (cs : List (Call F)) where
+module _ {F : Type 0} (R : Semiring F) (N : Notation F) (pick : Order F) (sizes : Sizes) (cs : List (Call F)) where
   -- a study of these variables and this circuit
-  abbrev pub plant_study : Variables → List Shape → Study F
-  plant_study vs ss = record { roles = roles_of vs; circuit = ss; pick = pick; work_size = work-size }
+  abbrev pub plant_parts : Variables → List Shape → FixedParts F
+  plant_parts vs ss = record { roles = roles_of vs; circuit = ss; pick = pick; work_size = sizes.work }
 
   -- for a checked table, with its weight text: the answers of a new study
   abbrev pub table_day : Variables → List Shape → List ℕ → Lines
   table_day vs ss weights =
-      unless_weights_refused R N vs (replicate sheet-size R.zero) weights (λ sheet.
-      answer_lines N (listed vs) (answers R (plant_study vs ss) (new sheet) cs))
+      unless_weights_refused R N vs (replicate sizes.sheet R.zero) weights (λ sheet.
+      answer_lines N (listed vs) (answers R (plant_parts vs ss) (new sheet) cs))
 
   -- for a file
   abbrev pub day_report : List ℕ → Lines
@@ -59,8 +60,8 @@ module _ {F : Type 0} (R : Semiring F) (N : Notation F) (pick : Order F) (sheet-
       let vs = c.variables in
       let ns = (read_from largest file).nodes in
       let children = (read_from largest file).children in
-      let read = weights_say R N (roles_of vs) (replicate sheet-size R.zero) (drop c.weights file) in
+      let read = weights_say R N (roles_of vs) (replicate sizes.sheet R.zero) (drop c.weights file) in
       check_says vs ns children ≡ Ok m → read.answer ≡ Ok tt →
       (given : List (Answer F)) × (end : Book F)
-      × Day R (plant_study vs (shapes children ns)) (new read.sheet) cs given end
+      × Day R (plant_parts vs (shapes children ns)) (new read.sheet) cs given end
       × (day_report file ≡ answer_lines N (listed vs) given)

@@ -3,7 +3,7 @@ ghost use Rattle.std.specs.Prelude.{◌≡◌, [], ◌∷◌, IfOk};
 ghost use Rattle.text.specs.Format.{listed};
 ghost use Rattle.text.specs.Printed.{PlainNames};
 ghost use Rattle.table.specs.Whole.{circuit};
-ghost use Rattle.search.specs.Day.{new, study_of, answers};
+ghost use Rattle.search.specs.Day.{new, fixed_parts, answers};
 ghost use Rattle.report.specs.Answers.{answer_line, answer_lines, table_day as table_day_of, day_report, MakesDay};
 ghost use Rattle.report.specs.Stops.{Prints, Spells, SpellsNames};
 
@@ -43,9 +43,8 @@ pub fn day_report<K: Written, O: BranchingOrder<K>>(
     file: &[u8],
     calls: &[Call<K>],
 ) -> Result<String, AllocError>
-    ensures text { let pick = O.picks order.now in
-        Spells (day_report K.ring K.notation pick sizes.sheet sizes.work calls.now file.now) result }
-    ensures day { MakesDay K.ring K.notation (O.picks order.now) sizes.sheet sizes.work calls.now file.now }
+    ensures text { Spells (day_report K.ring K.notation (O.picks order.now) sizes calls.now file.now) result }
+    ensures day { MakesDay K.ring K.notation (O.picks order.now) sizes calls.now file.now }
 {
     printed(heap, file_day::<K, O>(heap, order, sizes, file, calls))
 }
@@ -58,8 +57,7 @@ fn file_day<K: Written, O: BranchingOrder<K>>(
     file: &[u8],
     calls: &[Call<K>],
 ) -> Result<String, Stop>
-    ensures { let pick = O.picks order.now in
-        Prints (Unit {0}) (day_report K.ring K.notation pick sizes.sheet sizes.work calls.now file.now) result }
+    ensures { Prints (Unit {0}) (day_report K.ring K.notation (O.picks order.now) sizes calls.now file.now) result }
 {
     let room = Room::largest();
     let parts = Parts::read(heap, &room, file)??;
@@ -77,7 +75,7 @@ fn table_day<K: Written, O: BranchingOrder<K>>(
     calls: &[Call<K>],
 ) -> Result<String, Stop>
     ensures { let vs = table.now.variables in
-        let day_of = table_day_of K.ring K.notation (O.picks order.now) sizes.sheet sizes.work calls.now in
+        let day_of = table_day_of K.ring K.notation (O.picks order.now) sizes calls.now in
         Prints (PlainNames (listed vs)) (day_of vs (circuit table.now) weights.now) result }
 {
     let mut figures = zeros::<K>(heap, sizes.sheet)?;
@@ -99,7 +97,7 @@ fn day_answers<K: Figure, O: BranchingOrder<K>>(
     work: &mut [K],
     calls: &[Call<K>],
 ) -> Result<Vec<Answer<K>>, AllocError>
-    ensures { let s = study_of table.now (O.picks order.now) work.old in
+    ensures { let s = fixed_parts table.now (O.picks order.now) work.old in
         IfOk result (λ v. v.items ≡ answers K.ring s (new sheet.old.figures.now) calls.now) }
 {
     let mut answers = Vec::new(heap);

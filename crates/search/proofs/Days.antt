@@ -20,7 +20,7 @@ use Rattle.search.specs.Calls.{tried}
 use Rattle.search.specs.Faults.{fault_number, turn}
 use Rattle.search.specs.Orders.{Lawful}
 use Rattle.search.specs.Study.{Tests, first_fit, stray_hold}
-use Rattle.search.specs.Day.{Book, Study, new, problem_by, facts, First, Accepted, after, Right, Day, ended, called, Answer, answer, answers, book_after, DaysAgree, NoStrays}
+use Rattle.search.specs.Day.{Book, FixedParts, new, problem_by, facts, First, Accepted, after, Right, Day, ended, called, Answer, answer, answers, book_after, DaysAgree, NoStrays}
 use Rattle.search.proofs.Holding.{entry_apart, entries_length, all_held}
 use Rattle.search.proofs.Best.{one_figure, selects}
 use Rattle.passes.proofs.Below.{bounded}
@@ -56,7 +56,7 @@ judged (t ∷ ts) up =
     ))
     (λ out. judged_later t ts (first_fit ts) out (judged ts ups.1))
 
-module _ {F : Type 0} (R : Semiring F) (s : Study F) (b : Book F) where
+module _ {F : Type 0} (R : Semiring F) (s : FixedParts F) (b : Book F) where
   tests_rise : (c : Call F) → rise (facts R s b c).tests ≡ true
   tests_rise (Hold v on) = refl
   tests_rise (Release v) = refl
@@ -87,7 +87,7 @@ module _ {F : Type 0} (R : Semiring F) (s : Study F) (b : Book F) where
       by (Some f) j = kept
 
 -- a call leaves the holds as long as they are
-next_length : {F : Type 0} (R : Semiring F) (s : Study F) (b : Book F) (c : Call F) → length (facts R s b c).next.holds ≡ length b.holds
+next_length : {F : Type 0} (R : Semiring F) (s : FixedParts F) (b : Book F) (c : Call F) → length (facts R s b c).next.holds ≡ length b.holds
 next_length R s b (Hold v on) = entries_length b.holds v (held on)
 next_length R s b (Release v) = entries_length b.holds v Free
 next_length R s b (Weigh v x y) = refl
@@ -96,7 +96,7 @@ next_length R s b Figure = refl
 next_length R s b Bound = refl
 next_length R s b Select = refl
 
-module _ {F : Type 0} (R : Semiring F) (s : Study F) where
+module _ {F : Type 0} (R : Semiring F) (s : FixedParts F) where
   -- a reply is what the call's facts say of it in one way only
   one_reply : (b : Book F) (c : Call F) (r : Reply F) → (facts R s b c).Says r → r ≡ (facts R s b c).reply
   one_reply b (Hold v on) r says = says
@@ -134,7 +134,7 @@ module _ {F : Type 0} (R : Semiring F) (s : Study F) where
   pub days_agree : DaysAgree R s
   days_agree b end cs given day = one_day day
 
-module _ {F : Type 0} (R : Semiring F) (laws : Laws R) (s : Study F) (lawful : Lawful s.pick) (accepted : verdict s.roles s.circuit ≡ sound) where
+module _ {F : Type 0} (R : Semiring F) (laws : Laws R) (s : FixedParts F) (lawful : Lawful s.pick) (accepted : verdict s.roles s.circuit ≡ sound) where
   replies : (b : Book F) (c : Call F) → length s.roles ≤ length b.holds → Accepted R s b c → (facts R s b c).Says (facts R s b c).reply
   replies b (Hold v on) room passes = refl
   replies b (Release v) room passes = refl
@@ -201,7 +201,7 @@ for_stray (Err f) = eqb (fault_number f) 15
 abbrev not_for_stray : Bool × Fault → Bool
 not_for_stray t = not (eqb (fault_number t.1) 15 && t.0)
 
-module _ {F : Type 0} (R : Semiring F) (s : Study F) where
+module _ {F : Type 0} (R : Semiring F) (s : FixedParts F) where
   tidy_next : (b : Book F) (c : Call F) → Tidy s.roles b.holds → Accepted R s b c → Tidy s.roles (facts R s b c).next.holds
   tidy_next b (Hold v on) tidy passes = tidy_with s.roles b.holds v (held on) (λ e. passes (NoOption v) (inr (inl (ap (λ t. (t, NoOption v)) e)))) tidy
   tidy_next b (Release v) tidy passes = tidy_with s.roles b.holds v Free (λ e. passes (NoOption v) (inr (inl (ap (λ t. (t, NoOption v)) e)))) tidy

@@ -3,10 +3,10 @@ use Rattle.std.proofs.Common.{◌≡◌, ℕ, ◌+◌, ◌<◌, ◌≤◌, min, 
 use Rattle.std.proofs.lemmas.List.{at_drop_more, at_drop_all, take_more_set, take-append-drop, append-nil, get_or-take, length-take, length-set, drop-set-lt, drop_all, drop_at, drop-drop, take_all, take_at}
 use Rattle.std.proofs.lemmas.Bool.{cases_lt}
 use Rattle.kinds.specs.Semiring.{Semiring}
-use Rattle.search.specs.Day.{Book, Study, Answer, answer, answers, after, book_after}
+use Rattle.search.specs.Day.{Book, FixedParts, Answer, answer, answers, after, book_after}
 use Rattle.search.specs.declared.call.Call.{Call}
 
-module _ {F : Type 0} (R : Semiring F) (s : Study F) (start : Book F) (cs : List (Call F)) (before : List (Answer F)) where
+module _ {F : Type 0} (R : Semiring F) (s : FixedParts F) (start : Book F) (cs : List (Call F)) (before : List (Answer F)) where
   -- the calls that there are places for
   abbrev asked : List (Call F)
   asked = take (length before) cs
@@ -58,7 +58,7 @@ module _ {F : Type 0} (R : Semiring F) (s : Study F) (start : Book F) (cs : List
           | inr more ↦ drop_all i before (omega arith) ∙ sym (drop_all (length cs) before more)
         ]
 
-answers_length : {F : Type 0} (R : Semiring F) (s : Study F) (b : Book F) (cs : List (Call F)) → length (answers R s b cs) ≡ length cs
+answers_length : {F : Type 0} (R : Semiring F) (s : FixedParts F) (b : Book F) (cs : List (Call F)) → length (answers R s b cs) ≡ length cs
 answers_length R s b [] = refl
 answers_length R s b (c ∷ cs) = let rest = answers_length R s (after R s b c) cs in omega arith
 
@@ -73,7 +73,7 @@ log_parts said before log n many e = elim (cases_lt (length before) n) [
       (ap (take n) all ∙ take_all n said (omega arith), ap (drop n) all ∙ drop_all n said (omega arith) ∙ sym (drop_all n before (omega arith)))
 ]
 
-pub day_log : {F : Type 0} (R : Semiring F) (s : Study F) (start : Book F) (cs : List (Call F)) (before log : List (Answer F))
+pub day_log : {F : Type 0} (R : Semiring F) (s : FixedParts F) (start : Book F) (cs : List (Call F)) (before log : List (Answer F))
     → log ≡ answers R s start (take (length before) cs) ++ drop (length cs) before
     → (take (length cs) log ≡ answers R s start (take (length before) cs)) × (drop (length cs) log ≡ drop (length cs) before)
 day_log R s start cs before log e =

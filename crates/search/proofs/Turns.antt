@@ -6,7 +6,7 @@ use Rattle.passes.specs.Marks.{with_entry}
 use Rattle.passes.specs.declared.holds.Entry.TheVariants.{On, Off}
 use Rattle.search.specs.declared.found.Found.{Found}
 use Rattle.search.specs.Select.{Branching, opened, counted, explored}
-use Rattle.search.specs.Walk.{next_at, turn}
+use Rattle.search.specs.Walk.{next_at, open_branch}
 
 pub next_at_some : (k : ℕ) (o : Option ℕ) → 0 < k → next_at k o ≡ o
 next_at_some zero o l = absurd (not-suc-le-zero l)
@@ -44,30 +44,30 @@ module _ {F : Type 0} (plan : Branching F) where
   leaf_at h s = counted plan h (opened s)
 
   module _ (k : ℕ) (h : Entries) (s : Found F) where
-    pub turn_cut : plan.cuts h s.best ≡ true → turn plan k h s ≡ (None, opened s)
-    unfolding turn
+    pub turn_cut : plan.cuts h s.best ≡ true → open_branch plan k h s ≡ (None, opened s)
+    unfolding open_branch
     turn_cut t = cond-true (cut_at h s) _ (elim (next_at k (plan.next h)) [ None ↦ (None, leaf_at h s) | Some v ↦ (Some v, opened s) ]) t
 
     module _ (f : plan.cuts h s.best ≡ false) where
-      turn_open : turn plan k h s ≡ way false (next_at k (plan.next h)) (opened s) (leaf_at h s)
-      unfolding turn
+      turn_open : open_branch plan k h s ≡ way false (next_at k (plan.next h)) (opened s) (leaf_at h s)
+      unfolding open_branch
       turn_open = cond-false (cut_at h s) (None, opened s) _ f
 
-      pub turn_option : (turn plan k h s).0 ≡ next_at k (plan.next h)
+      pub turn_option : (open_branch plan k h s).0 ≡ next_at k (plan.next h)
       turn_option = ap (λ t. t.0) turn_open ∙ by (next_at k (plan.next h))
         where
           by : (o : Option ℕ) → (way false o (opened s) (leaf_at h s)).0 ≡ o
           by None = refl
           by (Some v) = refl
 
-      pub turn_leaf : is_some (next_at k (plan.next h)) ≡ false → (turn plan k h s).1 ≡ counted plan h (opened s)
+      pub turn_leaf : is_some (next_at k (plan.next h)) ≡ false → (open_branch plan k h s).1 ≡ counted plan h (opened s)
       turn_leaf none = ap (λ t. t.1) turn_open ∙ by (next_at k (plan.next h)) none
         where
           by : (o : Option ℕ) → is_some o ≡ false → (way false o (opened s) (leaf_at h s)).1 ≡ leaf_at h s
           by None e = refl
           by (Some v) e = absurd (true≢false e)
 
-      pub turn_fork : is_some (next_at k (plan.next h)) ≡ true → (turn plan k h s).1 ≡ opened s
+      pub turn_fork : is_some (next_at k (plan.next h)) ≡ true → (open_branch plan k h s).1 ≡ opened s
       turn_fork some = ap (λ t. t.1) turn_open ∙ by (next_at k (plan.next h)) some
         where
           by : (o : Option ℕ) → is_some o ≡ true → (way false o (opened s) (leaf_at h s)).1 ≡ opened s
@@ -75,8 +75,8 @@ module _ {F : Type 0} (plan : Branching F) where
           by (Some v) e = refl
 
     -- one branch more is opened
-    pub turn_openings : (turn plan k h s).1.openings ≡ s.openings + 1
-    unfolding turn
+    pub turn_openings : (open_branch plan k h s).1.openings ≡ s.openings + 1
+    unfolding open_branch
     turn_openings = by (cut_at h s) (next_at k (plan.next h)) (plan.replaces (plan.figure_at h) s.best)
       where
         taken : Found F
@@ -89,8 +89,8 @@ module _ {F : Type 0} (plan : Branching F) where
         by false (Some v) high = refl
 
   -- a branch that nothing follows
-  pub leaf_step : (k : ℕ) (h : Entries) (s : Found F) → (turn plan k h s).0 ≡ None → explored plan k h s ≡ (turn plan k h s).1
-  unfolding turn explored
+  pub leaf_step : (k : ℕ) (h : Entries) (s : Found F) → (open_branch plan k h s).0 ≡ None → explored plan k h s ≡ (open_branch plan k h s).1
+  unfolding open_branch explored
   leaf_step zero h s e = leaf_way (cut_at h s) None (opened s) (leaf_at h s) (λ _. s) e
   leaf_step (suc k) h s e = leaf_way (cut_at h s) (plan.next h) (opened s) (leaf_at h s) _ e
 
@@ -99,10 +99,10 @@ module _ {F : Type 0} (plan : Branching F) where
     pub below : ℕ
     pub deep : k ≡ suc below
     pub option : plan.next h ≡ Some v
-    pub both : explored plan k h s ≡ explored plan below (with_entry h v Off) (explored plan below (with_entry h v On) (turn plan k h s).1)
+    pub both : explored plan k h s ≡ explored plan below (with_entry h v Off) (explored plan below (with_entry h v On) (open_branch plan k h s).1)
 
-  pub fork_step : (k : ℕ) (h : Entries) (s : Found F) (v : ℕ) → (turn plan k h s).0 ≡ Some v → Forks k h s v
-  unfolding turn explored
+  pub fork_step : (k : ℕ) (h : Entries) (s : Found F) (v : ℕ) → (open_branch plan k h s).0 ≡ Some v → Forks k h s v
+  unfolding open_branch explored
   fork_step zero h s v e = absurd (none (cut_at h s) e)
     where
       none : (cut : Bool) → (way cut None (opened s) (leaf_at h s)).0 ≡ Some v → ⊥

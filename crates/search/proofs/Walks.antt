@@ -10,7 +10,7 @@ use Rattle.passes.specs.declared.holds.Entry.TheVariants.{Free, On, Off}
 use Rattle.search.specs.declared.found.Found.{Found}
 use Rattle.search.specs.declared.trail.Branch.{Branch}
 use Rattle.search.specs.Select.{Branching, explored}
-use Rattle.search.specs.Walk.{turn, back, no_branch, off_side}
+use Rattle.search.specs.Walk.{open_branch, back, no_branch, off_side}
 use Rattle.search.proofs.Openings.{nodes_few, explored_more, explored_few}
 use Rattle.search.proofs.Retreats.{back_on, back_off}
 use Rattle.search.proofs.Turns.{turn_openings, leaf_step, Forks, fork_step}
@@ -128,11 +128,11 @@ module _ {F : Type 0} {plan : Branching F} {n : ℕ} {h₀ : Entries} {s₀ : Fo
   pub walk_few : n ≤ 20 → s₀.openings ≡ 0 → s.openings < 2 ^ 63
   walk_few few z = omega (arith, walk_left, explored_few plan n h₀ s₀, nodes_few n few)
 
-  module _ {s' : Found F} (opens : s' ≡ (turn plan (n - d) h s).1) where
+  module _ {s' : Found F} (opens : s' ≡ (open_branch plan (n - d) h s).1) where
     pub walk_less : (explored plan n h₀ s₀).openings - s'.openings < (explored plan n h₀ s₀).openings - s.openings
     walk_less = omega (arith, walk_left, ap (λ x. x.openings) opens, turn_openings plan (n - d) h s)
 
-    pub walk_fork : {v : ℕ} {h' : Entries} → n ≤ 20 → Some v ≡ (turn plan (n - d) h s).0 → ((u : ℕ) → plan.next h ≡ Some u → entry h u ≡ Free)
+    pub walk_fork : {v : ℕ} {h' : Entries} → n ≤ 20 → Some v ≡ (open_branch plan (n - d) h s).0 → ((u : ℕ) → plan.next h ≡ Some u → entry h u ≡ Free)
         → h' ≡ with_entry h v On → Walking plan n h₀ s₀ (set trail d (record { option = v; on = true })) (d + 1) h' s'
     walk_fork {v} few next law holds =
         let b : Branch = record { option = v; on = true } in
@@ -153,7 +153,7 @@ module _ {F : Type 0} {plan : Branching F} {n : ℕ} {h₀ : Entries} {s₀ : Fo
         } in
         subst₂ (λ e x. Walking plan n h₀ s₀ (set trail d b) e x s') (sym (add-one d)) (sym holds) here
 
-    module _ {d' : ℕ} {trail' : List Branch} {h' : Entries} (few : n ≤ 20) (leaf : None ≡ (turn plan (n - d) h s).0) (de : d' ≡ (back trail d h).0) (te : trail' ≡ (back trail d h).1) (he : h' ≡ (back trail d h).2) where
+    module _ {d' : ℕ} {trail' : List Branch} {h' : Entries} (few : n ≤ 20) (leaf : None ≡ (open_branch plan (n - d) h s).0) (de : d' ≡ (back trail d h).0) (te : trail' ≡ (back trail d h).1) (he : h' ≡ (back trail d h).2) where
       lands : Lands plan n trail d h d' trail' h'
       lands = subst₃ (Lands plan n trail d h) (sym de) (sym te) (sym he) (back_lands plan n trail d h (omega (arith, walking.deep, walking.long)))
 

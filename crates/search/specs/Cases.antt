@@ -60,9 +60,9 @@ abbrev pub found_none : {F : Type 0} → ℕ → Found F
 found_none n = record { best = None; openings = n }
 
 -- the number and the node of the refusal, if a table is refused
-abbrev pub refusal : Verdict → Option (ℕ × ℕ)
-refusal sound = None
-refusal (flawed f i) = Some (fault_number (Node f i), fault_place (Node f i))
+abbrev pub refused_at : Verdict → Option (ℕ × ℕ)
+refused_at sound = None
+refused_at (flawed f i) = Some (fault_number (Node f i), fault_place (Node f i))
 
 pub record Worked : Type 0 where
   -- 1: plant K, the chance weighing 3 on and 7 off
@@ -85,15 +85,15 @@ pub record Worked : Type 0 where
   pub peak_bound : bound peaks (asking (loading 9000 4000) unheld) ≡ Load (load 9000)
   pub peak_select : select peaks lowest (asking (loading 9000 4000) unheld) ≡ found (holding Off) (Load (load 9000)) 3
   -- 6: an and of nodes 3 and 0, which both mention the chance
-  pub shared : refusal (verdict roles (begun (all (3 ∷ 0 ∷ []) ∷ fork 2 2 5 ∷ []))) ≡ Some (10, 5)
+  pub shared : refused_at (verdict roles (begun (all (3 ∷ 0 ∷ []) ∷ fork 2 2 5 ∷ []))) ≡ Some (10, 5)
   -- 7: the root's branches exchanged
-  pub exchanged : refusal (verdict roles (begun (all (3 ∷ 4 ∷ []) ∷ fork 2 5 2 ∷ []))) ≡ Some (11, 6)
+  pub exchanged : refused_at (verdict roles (begun (all (3 ∷ 4 ∷ []) ∷ fork 2 5 2 ∷ []))) ≡ Some (11, 6)
   -- 8: the root is a child of itself
-  pub looped : refusal (verdict roles (begun (all (3 ∷ 4 ∷ []) ∷ fork 2 2 6 ∷ []))) ≡ Some (8, 6)
+  pub looped : refused_at (verdict roles (begun (all (3 ∷ 4 ∷ []) ∷ fork 2 2 6 ∷ []))) ≡ Some (8, 6)
   -- 9: the chance is not mentioned
-  pub missing : refusal (verdict roles (lit 1 true ∷ [])) ≡ Some (13, 0)
+  pub missing : refused_at (verdict roles (lit 1 true ∷ [])) ≡ Some (13, 0)
   -- 10: one branch of the root mentions the chance, the other does not
-  pub uneven : refusal (verdict roles (lit 1 true ∷ lit 1 false ∷ lit 2 true ∷ all (1 ∷ 2 ∷ []) ∷ fork 1 0 3 ∷ [])) ≡ Some (12, 4)
+  pub uneven : refused_at (verdict roles (lit 1 true ∷ lit 1 false ∷ lit 2 true ∷ all (1 ∷ 2 ∷ []) ∷ fork 1 0 3 ∷ [])) ≡ Some (12, 4)
   -- 11: a sum that reaches the cap, and one that would pass it
   pub at_cap : figure tallies (false ∷ []) coin (tally 9223372036854775808 ∷ tally 9223372036854775807 ∷ []) (selected unheld) ≡ tally 18446744073709551615
   pub past_cap : figure tallies (false ∷ []) coin (tally 9223372036854775808 ∷ tally 9223372036854775808 ∷ []) (selected unheld) ≡ tally 18446744073709551615

@@ -39,23 +39,23 @@ abbrev pub new : {F : Type 0} → List F → Book F
 new sheet = record { holds = unheld; sheet = sheet }
 
 -- the book of a study as it stands
-abbrev pub book_of : {F : Type 0} → Holds → Sheet F → Book F
-book_of h sheet = record { holds = h.entries; sheet = sheet.figures.now }
+abbrev pub book_of : {F : Type 0} → Sheet F → Holds → Book F
+book_of sheet h = record { holds = h.entries; sheet = sheet.figures.now }
 
--- what no call changes: which variables are options, the circuit, what the order names, and how many figures the work
--- table has
-pub record Study (F : Type 0) : Type 0 where
+-- the parts of a study that no call changes: which variables are options, the circuit, what the order names, and how
+-- many figures the work table has
+pub record FixedParts (F : Type 0) : Type 0 where
   pub roles : Roles
   pub circuit : List Shape
   pub pick : Order F
   pub work_size : ℕ
 
--- a study of a table, by an order, with a work table
-abbrev pub study_of : {F : Type 0} → Table → Order F → List F → Study F
-study_of t pick work = record { roles = roles t; circuit = circuit t; pick = pick; work_size = length work }
+-- those of a table, an order and a work table
+abbrev pub fixed_parts : {F : Type 0} → Table → Order F → List F → FixedParts F
+fixed_parts t pick work = record { roles = roles t; circuit = circuit t; pick = pick; work_size = length work }
 
 -- what is asked of the passes, by the book
-abbrev pub problem_by : {F : Type 0} → Study F → Book F → Problem F
+abbrev pub problem_by : {F : Type 0} → FixedParts F → Book F → Problem F
 problem_by s b = record { roles = s.roles; circuit = s.circuit; sheet = b.sheet; holds = b.holds }
 
 -- The replies of accepted calls.
@@ -83,7 +83,7 @@ pub record CallFacts (F : Type 0) : Type 1 where
   pub reply : Reply F
   pub Says : Reply F → Type 0
 
-module _ {F : Type 0} (R : Semiring F) (s : Study F) (b : Book F) where
+module _ {F : Type 0} (R : Semiring F) (s : FixedParts F) (b : Book F) where
   abbrev pub facts : Call F → CallFacts F
   facts (Hold v on) = record {
     tests = hold_tests s.roles b.holds v;
@@ -144,7 +144,7 @@ module _ {F : Type 0} (R : Semiring F) (s : Study F) (b : Book F) where
 abbrev pub Answer : Type 0 → Type 0
 Answer F = Result (Reply F) Fault
 
-module _ {F : Type 0} (R : Semiring F) (s : Study F) where
+module _ {F : Type 0} (R : Semiring F) (s : FixedParts F) where
   -- a call is answered by the first refusal that fits, and the book stays; if none fits, by what it asks for, and the book
   -- changes
   pub record Right (b : Book F) (c : Call F) (a : Answer F) (next : Book F) : Type 0 where

@@ -13,7 +13,7 @@ use Rattle.search.specs.declared.plan.Plan.{Plan}
 module _ {F O : Type 0} where
   -- the problem of a plan under holds
   abbrev pub plan_asks : Plan F O → Holds → Problem F
-  plan_asks plan h = problem_of plan.table.now h.entries plan.sheet.now
+  plan_asks plan h = problem_of plan.table.now plan.sheet.now h.entries
 
   module _ (R : Semiring F) (pick : Order F) (plan : Plan F O) (h : Holds) where
     -- its branch and bound, by what its order names

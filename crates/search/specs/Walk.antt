@@ -13,8 +13,8 @@ next_at zero o = None
 next_at (suc k) o = o
 
 -- one branch opened, where at most k options are free: the option to branch on, if anything follows, and what is found
-unfoldable pub turn : {F : Type 0} → Branching F → ℕ → Entries → Found F → Option ℕ × Found F
-turn b k h s =
+unfoldable pub open_branch : {F : Type 0} → Branching F → ℕ → Entries → Found F → Option ℕ × Found F
+open_branch b k h s =
     if b.cuts h s.best then (None, opened s)
     else (elim (next_at k (b.next h)) [
       | None ↦ (None, counted b h (opened s))

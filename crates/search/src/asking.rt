@@ -23,9 +23,9 @@ pub fn figure<K: Figure>(
     sheet: &Sheet<K>,
     work: &mut [K],
 ) -> Result<K, Fault>
-    ensures answer { result ≡ figure_answer K.ring (asked table.now holds.now sheet.now) (length work.old) }
+    ensures answer { result ≡ figure_answer K.ring (asked table.now sheet.now holds.now) (length work.old) }
     ensures behind { BehindKept table.now work.old work.new }
-    ensures work { work.new ≡ figure_leaves K.ring (asked table.now holds.now sheet.now) work.old }
+    ensures work { work.new ≡ figure_leaves K.ring (asked table.now sheet.now holds.now) work.old }
 {
     require_sheet(table, sheet.figures.len())?;
     require_no_stray(table, holds)?;
@@ -46,10 +46,10 @@ pub fn bound<K: Figure>(
     sheet: &Sheet<K>,
     work: &mut [K],
 ) -> Result<K, Fault>
-    ensures answer { result ≡ bound_answer K.ring (asked table.now holds.now sheet.now) (length work.old) }
+    ensures answer { result ≡ bound_answer K.ring (asked table.now sheet.now holds.now) (length work.old) }
     ensures behind { BehindKept table.now work.old work.new }
-    ensures bounded { IfOk result (Bounded K.ring (asked table.now holds.now sheet.now)) }
-    ensures work { work.new ≡ bound_leaves K.ring (asked table.now holds.now sheet.now) work.old }
+    ensures bounded { IfOk result (Bounded K.ring (asked table.now sheet.now holds.now)) }
+    ensures work { work.new ≡ bound_leaves K.ring (asked table.now sheet.now holds.now) work.old }
 {
     require_sheet(table, sheet.figures.len())?;
     require_no_stray(table, holds)?;
@@ -70,9 +70,9 @@ pub fn select<K: Figure, O: BranchingOrder<K>>(
     work: &mut [K],
     order: &O,
 ) -> Result<Found<K>, Fault>
-    ensures answer { let p = asked table.now holds.now sheet.now in
+    ensures answer { let p = asked table.now sheet.now holds.now in
         result ≡ select_answer K.ring p (length work.old) (O.picks order.now) }
-    ensures best { IfOk result (FoundBest K.ring (asked table.now holds.now sheet.now) (O.picks order.now)) }
+    ensures best { IfOk result (FoundBest K.ring (asked table.now sheet.now holds.now) (O.picks order.now)) }
     ensures behind { BehindKept table.now work.old work.new }
     ensures refused { is_ok result ≡ false → work.new ≡ work.old }
 {

@@ -1,7 +1,7 @@
 //! A working day: a list of calls on one new study.
 ghost use Rattle.std.specs.Prelude.{◌≡◌, length, drop};
 ghost use Rattle.search.specs.Calls.{BehindKept};
-ghost use Rattle.search.specs.Day.{NewDay, DaysAgree, NoStrays, study_of, book_of, answer, after};
+ghost use Rattle.search.specs.Day.{NewDay, DaysAgree, NoStrays, fixed_parts, book_of, answer, after};
 
 use crate::asking::{bound, figure, select};
 use crate::call::{Call, Reply};
@@ -23,14 +23,14 @@ pub fn ask<K: Figure, O: BranchingOrder<K>>(
     work: &mut [K],
     call: &Call<K>,
 ) -> Result<Reply<K>, Fault>
-    ensures answer { let s = study_of table.now (O.picks order.now) work.old in
-        result ≡ answer K.ring s (book_of holds.old sheet.old) call.now }
-    ensures holds { let s = study_of table.now (O.picks order.now) work.old in
-        holds.new.entries ≡ (after K.ring s (book_of holds.old sheet.old) call.now).holds }
+    ensures answer { let s = fixed_parts table.now (O.picks order.now) work.old in
+        result ≡ answer K.ring s (book_of sheet.old holds.old) call.now }
+    ensures holds { let s = fixed_parts table.now (O.picks order.now) work.old in
+        holds.new.entries ≡ (after K.ring s (book_of sheet.old holds.old) call.now).holds }
     ensures work { BehindKept table.now work.old work.new }
     ensures same { sheet.new.figures.ghost_name ≡ sheet.old.figures.ghost_name }
-    ensures sheet { let s = study_of table.now (O.picks order.now) work.old in
-        sheet.new.figures.now ≡ (after K.ring s (book_of holds.old sheet.old) call.now).sheet }
+    ensures sheet { let s = fixed_parts table.now (O.picks order.now) work.old in
+        sheet.new.figures.now ≡ (after K.ring s (book_of sheet.old holds.old) call.now).sheet }
 {
     match *call {
         Call::Hold { variable, on } => hold(table, holds, variable, on).map(|_| Reply::Done),
@@ -57,10 +57,10 @@ pub fn work_day<K: Figure, O: BranchingOrder<K>>(
     calls: &[Call<K>],
     answers: &mut [Result<Reply<K>, Fault>],
 ) -> Holds
-    ensures day { let s = study_of table.now (O.picks order.now) work.old in
-        NewDay K.ring s sheet.old.figures.now calls.now answers.new (book_of result sheet.new) }
-    ensures only { DaysAgree K.ring (study_of table.now (O.picks order.now) work.old) }
-    ensures own { NoStrays K.ring (study_of table.now (O.picks order.now) work.old) }
+    ensures day { let s = fixed_parts table.now (O.picks order.now) work.old in
+        NewDay K.ring s sheet.old.figures.now calls.now answers.new (book_of sheet.new result) }
+    ensures only { DaysAgree K.ring (fixed_parts table.now (O.picks order.now) work.old) }
+    ensures own { NoStrays K.ring (fixed_parts table.now (O.picks order.now) work.old) }
     ensures behind { drop (length calls.now) answers.new ≡ drop (length calls.now) answers.old }
     ensures work { BehindKept table.now work.old work.new }
     ensures same { sheet.new.figures.ghost_name ≡ sheet.old.figures.ghost_name }

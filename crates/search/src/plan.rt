@@ -26,7 +26,7 @@ impl<K: Figure, O: BranchingOrder<K>> Plan<'_, K, O> {
     ghost use Rattle.search.specs.Best.{FoundBest};
     ghost use Rattle.search.specs.Calls.{places, BehindKept};
     ghost use Rattle.search.specs.Plans.{plan_asks, plan_branching, plan_next};
-    ghost use Rattle.search.specs.Walk.{turn};
+    ghost use Rattle.search.specs.Walk.{open_branch};
 
     /// The option that the order names of the free ones, which are at most `levels`, if one is
     /// free. `part` is the root's part of the work table.
@@ -61,9 +61,9 @@ impl<K: Figure, O: BranchingOrder<K>> Plan<'_, K, O> {
         requires room { places self.now.table.now ≤ length work.old }
         requires few { found.old.openings < 2 ^ 63 }
         ensures option { let b = plan_branching K.ring (O.picks self.now.order.now) self.now holds.now in
-            result ≡ (turn b levels holds.now.entries found.old).0 }
+            result ≡ (open_branch b levels holds.now.entries found.old).0 }
         ensures found { let b = plan_branching K.ring (O.picks self.now.order.now) self.now holds.now in
-            found.new ≡ (turn b levels holds.now.entries found.old).1 }
+            found.new ≡ (open_branch b levels holds.now.entries found.old).1 }
         ensures work { BehindKept self.now.table.now work.old work.new }
     {
         let query = Query {

@@ -1,11 +1,8 @@
 //! The calls of a study on its holds and its sheet. A refused call changes nothing.
 ghost use Rattle.std.specs.Prelude.{◌≡◌};
-ghost use Rattle.table.specs.Count.{weighed};
 ghost use Rattle.table.specs.Whole.{roles};
-ghost use Rattle.passes.specs.Marks.{with_entry, held};
-ghost use Rattle.passes.specs.declared.holds.Entry.TheVariants.{Free};
-ghost use Rattle.search.specs.Calls.{asked};
-ghost use Rattle.search.specs.Study.{answered, changed_to, hold_tests, release_tests, weigh_tests};
+ghost use Rattle.search.specs.Calls.{asked, hold_leaves, release_leaves, weigh_leaves};
+ghost use Rattle.search.specs.Study.{answered, hold_tests, release_tests, weigh_tests};
 
 use crate::fault::Fault;
 use crate::requirements::{
@@ -19,8 +16,7 @@ use table::table::Table;
 /// Holds a free option on (or off).
 pub fn hold(table: &Table, holds: &mut Holds, variable: u16, on: bool) -> Result<(), Fault>
     ensures answer { result ≡ answered (hold_tests (roles table.now) holds.old.entries variable) tt }
-    ensures holds { let tests = hold_tests (roles table.now) holds.old.entries variable in
-        holds.new.entries ≡ changed_to tests (with_entry holds.old.entries variable (held on)) holds.old.entries }
+    ensures holds { holds.new.entries ≡ hold_leaves table.now holds.old variable on }
 {
     require_no_stray(table, holds)?;
     require_option(table, variable)?;
@@ -32,8 +28,7 @@ pub fn hold(table: &Table, holds: &mut Holds, variable: u16, on: bool) -> Result
 /// Sets a held option free.
 pub fn release(table: &Table, holds: &mut Holds, variable: u16) -> Result<(), Fault>
     ensures answer { result ≡ answered (release_tests (roles table.now) holds.old.entries variable) tt }
-    ensures holds { let tests = release_tests (roles table.now) holds.old.entries variable in
-        holds.new.entries ≡ changed_to tests (with_entry holds.old.entries variable Free) holds.old.entries }
+    ensures holds { holds.new.entries ≡ release_leaves table.now holds.old variable }
 {
     require_no_stray(table, holds)?;
     require_option(table, variable)?;
@@ -51,10 +46,9 @@ pub fn weigh<K: Figure>(
     on: K,
     off: K,
 ) -> Result<(), Fault>
-    ensures answer { result ≡ answered (weigh_tests (asked table.now holds.now sheet.old) variable) tt }
+    ensures answer { result ≡ answered (weigh_tests (asked table.now sheet.old holds.now) variable) tt }
     ensures same { sheet.new.figures.ghost_name ≡ sheet.old.figures.ghost_name }
-    ensures sheet { let tests = weigh_tests (asked table.now holds.now sheet.old) variable in
-        sheet.new.figures.now ≡ changed_to tests (weighed sheet.old.figures.now variable on off) sheet.old.figures.now }
+    ensures sheet { sheet.new.figures.now ≡ weigh_leaves (asked table.now sheet.old holds.now) variable on off }
 {
     require_sheet(table, sheet.figures.len())?;
     require_no_stray(table, holds)?;

@@ -18,7 +18,6 @@ pub(crate) fn retreat(holds: &mut Holds, trail: &mut [Branch], depth: usize) -> 
     ensures trail { trail.new ≡ (back trail.old depth holds.old.entries).1 }
     ensures holds { holds.new.entries ≡ (back trail.old depth holds.old.entries).2 }
 {
-    // By index: it ends at the first that is held on, and writes where it reads.
     for at in (0..depth).rev() {
         let branch = trail[at];
         if branch.on {

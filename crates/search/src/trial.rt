@@ -30,7 +30,7 @@ fn bound_if_held<K: Figure>(
     requires known { (0 < variable) × (variable ≤ 64) }
     requires room { places table.now ≤ length work.old }
     requires sheet { 2 * length (roles table.now) ≤ length sheet.now }
-    ensures value { result ≡ bound_of K.ring (tried (problem_of table.now holds.old.entries sheet.now) variable on) }
+    ensures value { result ≡ bound_of K.ring (tried (problem_of table.now sheet.now holds.old.entries) variable on) }
     ensures same { holds.new.entries ≡ holds.old.entries }
     ensures behind { BehindKept table.now work.old work.new }
 {
@@ -60,9 +60,9 @@ pub fn trial<K: Figure>(
     variable: u16,
     on: bool,
 ) -> Result<K, Fault>
-    ensures answer { let p = asked table.now holds.old sheet.now in
+    ensures answer { let p = asked table.now sheet.now holds.old in
         result ≡ trial_answer K.ring p (length work.old) variable on }
-    ensures bounded { IfOk result (Bounded K.ring (tried (asked table.now holds.old sheet.now) variable on)) }
+    ensures bounded { IfOk result (Bounded K.ring (tried (asked table.now sheet.now holds.old) variable on)) }
     ensures holds { holds.new.entries ≡ holds.old.entries }
     ensures behind { BehindKept table.now work.old work.new }
     ensures refused { is_ok result ≡ false → work.new ≡ work.old }

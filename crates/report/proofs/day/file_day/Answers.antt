@@ -7,7 +7,7 @@ pub returns-in_err-table : goal.returns-in_err-table
 returns-in_err-table g c =
     let p = c.in_ok-parts.parts in
     refused_says _ _ _ c.from_residual-in_err-table.result c.from_residual-in_err-table.ensures
-    (unchecked (table_day g.K.Figure.ring g.K.Written.notation (g.O.BranchingOrder.picks c.args.order.now) c.args.sizes.sheet c.args.sizes.work c.args.calls.now) c.args.file.now p
+    (unchecked (table_day g.K.Figure.ring g.K.Written.notation (g.O.BranchingOrder.picks c.args.order.now) c.args.sizes c.args.calls.now) c.args.file.now p
     (parts_of _ _ _ c.in_ok-read.field-0 p c.largest-room.ensures c.in_ok-parts.was c.in_ok-read.ensures)
     _ c.in_err-table.ensures.fault)
 
@@ -18,5 +18,5 @@ returns g c =
     let of = c.in_ok-table.ensures.table in
     let a = parts_of _ _ _ c.in_ok-read.field-0 p c.largest-room.ensures c.in_ok-parts.was c.in_ok-read.ensures in
     says_of _ _ _ c.table_day.result (plain_table _ _ p t a of)
-    (checked_file (table_day g.K.Figure.ring g.K.Written.notation (g.O.BranchingOrder.picks c.args.order.now) c.args.sizes.sheet c.args.sizes.work c.args.calls.now) c.args.file.now p a t of c.weights.result.now c.weights.ensures)
+    (checked_file (table_day g.K.Figure.ring g.K.Written.notation (g.O.BranchingOrder.picks c.args.order.now) c.args.sizes c.args.calls.now) c.args.file.now p a t of c.weights.result.now c.weights.ensures)
     c.table_day.ensures

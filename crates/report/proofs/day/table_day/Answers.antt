@@ -4,7 +4,7 @@ use Rattle.text.specs.Format.{listed}
 use Rattle.text.specs.Printed.{text_of}
 use Rattle.table.specs.Whole.{circuit}
 use Rattle.search.specs.Day.{new, answers}
-use Rattle.report.specs.Answers.{answer_lines, plant_study}
+use Rattle.report.specs.Answers.{answer_lines, plant_parts}
 use Rattle.report.proofs.Planning.{read}
 use Rattle.report.proofs.day.table_day.Goals as goal
 
@@ -15,7 +15,7 @@ returns g c = λ plain.
     let pick = g.O.BranchingOrder.picks c.args.order.now in
     let sheet = c.read_weights.new.sheet.figures.now in
     let cs = c.args.calls.now in
-    let with_room = λ (k : ℕ). plant_study R g.K.Written.notation pick c.args.sizes.sheet k cs t.variables (circuit t) in
+    let with_room = λ (k : ℕ). plant_parts R g.K.Written.notation pick (record { sheet = c.args.sizes.sheet; work = k }) cs t.variables (circuit t) in
     c.in_ok-answers_text.ensures plain
     ∙ ap (λ l. text_of (answer_lines g.K.Written.notation (listed t.variables) l))
     (c.deref.ensures.value ∙ c.in_ok-answers.ensures ∙ ap (λ k. answers R (with_room k) (new sheet) cs)

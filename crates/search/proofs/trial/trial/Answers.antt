@@ -13,7 +13,7 @@ pub returns-clause-bounded : goal.returns-clause-bounded
 returns-clause-bounded g c =
     let t = c.args.table.now in
     rw c.bound_if_held.ensures.value
-    (bounded g.K.Figure.ring g.K.Figure.laws (tried (asked t c.args.holds.now c.args.sheet.now) c.args.variable c.args.on) (proved_sound t))
+    (bounded g.K.Figure.ring g.K.Figure.laws (tried (asked t c.args.sheet.now c.args.holds.now) c.args.variable c.args.on) (proved_sound t))
 
 pub bound_if_held-requires-clause-known : goal.bound_if_held-requires-clause-known
 bound_if_held-requires-clause-known g c =
