@@ -69,6 +69,7 @@ impl Parts {
     }
 
     /// The table of these parts, or why the check refuses them.
+    #[inline(always)]
     pub fn table(&self) -> Result<Table<'_>, TableFault>
         ensures table { IfOk result (λ t. IsTableOf self.now t) }
         ensures fault { IfErr result (λ f. check_parts self.now ≡ Err f) }

@@ -29,6 +29,7 @@ impl<'a> Table<'a> {
     ghost use Rattle.table.specs.Whole.{IsCheckedTable, circuit, roles};
 
     /// The table of these parts, or the first refusal that fits.
+    #[inline(always)]
     pub fn check(
         nodes: &'a [Node],
         children: &'a [u16],
