@@ -4,6 +4,7 @@ use Rattle.std.specs.List.{list_all}
 use Rattle.text.specs.Format.{Reading, file_says, listed, named_printable}
 use Rattle.text.specs.declared.fault.Fault.{Fault}
 use Rattle.table.specs.Check.{check_says}
+use Rattle.table.specs.Whole.{IsCheckedTable}
 use Rattle.table.specs.declared.fault.Fault as table
 use Rattle.table.specs.declared.sets.Mentions.{Mentions}
 use Rattle.table.specs.declared.table.Table.{Table}
@@ -34,9 +35,6 @@ Reads r file (Err f) = (read_from r file).answer ≡ Err f
 abbrev pub check_parts : Parts → Result Mentions table.Fault
 check_parts p = check_says p.contents.variables p.nodes.items p.children.items
 
--- a table has these parts, and the check accepts them
-pub record IsTableOf (p : Parts) (t : Table) : Type 0 where
-  pub nodes_are : t.nodes.now ≡ p.nodes.items
-  pub children_are : t.children.now ≡ p.children.items
-  pub variables_are : t.variables ≡ p.contents.variables
-  pub is_accepted : check_parts p ≡ Ok t.mentions
+-- the table of these parts
+abbrev pub IsTableOf : Parts → Table → Type 0
+IsTableOf p = IsCheckedTable p.nodes.items p.children.items p.contents.variables

@@ -16,6 +16,9 @@ circuit t = shapes t.children.now t.nodes.now
 abbrev pub roles : Table → Roles
 roles t = roles_of t.variables
 
--- the table of these parts, with what the check answers of them
-abbrev pub IsCheckedTable : List Node → List ℕ → Variables → Table → Type 0
-IsCheckedTable ns cs vs t = (t.nodes.now ≡ ns) × (t.children.now ≡ cs) × (t.variables ≡ vs) × (check_says vs ns cs ≡ Ok t.mentions)
+-- a table has these parts, and the check accepts them with the table's mentions
+pub record IsCheckedTable (ns : List Node) (cs : List ℕ) (vs : Variables) (t : Table) : Type 0 where
+  pub nodes_are : t.nodes.now ≡ ns
+  pub children_are : t.children.now ≡ cs
+  pub variables_are : t.variables ≡ vs
+  pub is_accepted : check_says vs ns cs ≡ Ok t.mentions
