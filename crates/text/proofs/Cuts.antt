@@ -1,5 +1,5 @@
 -- Lines by the place of the next byte 10, and how many fields a line has.
-use Rattle.std.proofs.Common.{◌≡◌, ℕ, suc, ◌+◌, ◌<◌, ◌≤◌, true, false, cond, eqb, ◌⊎◌, inl, inr, List, [], ◌∷◌, length, take, drop, Some, None, Option, unwrap_or, sym, refl, ap, ◌∙◌, subst, add-one, arith}
+use Rattle.std.proofs.Common.{◌≡◌, ℕ, suc, ◌+◌, ◌<◌, ◌≤◌, true, false, cond, eqb, ◌⊎◌, inl, inr, List, [], ◌∷◌, length, take, drop, Option, unwrap_or, sym, refl, ap, ◌∙◌, add-one, arith}
 use Rattle.std.specs.List.{AllWithin, HoldsAt}
 use Rattle.std.specs.Option.{MatchOption}
 use Rattle.std.proofs.lemmas.Iterator.{index_from_first}
@@ -7,12 +7,7 @@ use Rattle.std.proofs.lemmas.List.{length-take-le}
 use Rattle.std.proofs.lemmas.List.Splits.{length-slice_split}
 use Rattle.std.proofs.lemmas.List.Sums.{count_by-le-length}
 use Rattle.std.proofs.lemmas.Bool.{cases_lt, cond-true, cond-false, eq-eqb, ne_eqb}
-use Rattle.text.specs.Lines.{onto, lines, fields, BeginsWithLine}
-
--- the place of the first byte b, or the length where there is none
-abbrev pub index_of : ℕ → List ℕ → ℕ
-index_of b [] = 0
-index_of b (x ∷ xs) = cond (eqb x b) 0 (suc (index_of b xs))
+use Rattle.text.specs.Lines.{index_of, onto, lines, fields, BeginsWithLine}
 
 -- A text with a byte 10 begins with a line; one without has none.
 pub first_line : (xs : List ℕ) → index_of 10 xs < length xs → lines xs ≡ take (index_of 10 xs) xs ∷ lines (drop (suc (index_of 10 xs)) xs)
@@ -41,17 +36,11 @@ index_at b xs r h =
     (λ x ys n. cond-false (eqb x b) 0 _ (ne_eqb x b n) ∙ sym (add-one (index_of b ys))) xs r h
 
 -- a text with a byte 10 is cut at its first
-cut_at : (xs : List ℕ) → index_of 10 xs < length xs → BeginsWithLine xs (take (index_of 10 xs) xs)
+pub cut_at : (xs : List ℕ) → index_of 10 xs < length xs → BeginsWithLine xs (take (index_of 10 xs) xs)
 cut_at xs h =
     let long = length-take-le (index_of 10 xs) xs (omega arith) in
     let behind : suc (index_of 10 xs) ≡ length (take (index_of 10 xs) xs) + 1 = omega (arith, long) in
     record { within = omega (arith, h, long); lines_are = first_line xs h ∙ ap (λ k. take (index_of 10 xs) xs ∷ lines (drop k xs)) behind }
-
-pub begins : (xs : List ℕ) (r : Option ℕ) (i : ℕ) → IsFirst 10 xs r → r ≡ Some i → BeginsWithLine xs (take i xs)
-begins xs r i h e =
-    let first : IsFirst 10 xs (Some i) = rw e at h in
-    let is : index_of 10 xs ≡ i = index_at 10 xs (Some i) first in
-    subst (λ k. BeginsWithLine xs (take k xs)) is (cut_at xs (omega (arith, is, first.0)))
 
 -- each text begins with a line or has none
 pub cut : (xs : List ℕ) → BeginsWithLine xs (take (index_of 10 xs) xs) ⊎ (lines xs ≡ [])
@@ -59,9 +48,6 @@ cut xs = elim (cases_lt (index_of 10 xs) (length xs)) [
   | inl h ↦ inl (cut_at xs h)
   | inr h ↦ inr (no_line xs h)
 ]
-
-pub no_lines : (xs : List ℕ) (r : Option ℕ) → IsFirst 10 xs r → r ≡ None → lines xs ≡ []
-no_lines xs r h e = no_line xs (omega (arith, index_at 10 xs r h ∙ ap (λ o. unwrap_or o (length xs)) e))
 
 -- a line has a field, and at most one more than it has bytes
 pub some_field : (xs : List ℕ) → 1 ≤ length (fields xs)

@@ -16,10 +16,10 @@ use Rattle.text.specs.declared.record.Node.{Node}
 use Rattle.text.specs.declared.record.Header.{Header}
 use Rattle.text.specs.declared.record.Variable.{Variable}
 use Rattle.text.specs.declared.record.Contents.{Contents}
-use Rattle.text.specs.Lines.{printable, lines, fields}
+use Rattle.text.specs.Lines.{printable, index_of, lines, fields}
 use Rattle.text.specs.Format.{Said, Rooms, rooms_for, Sofar, Reading, NodeEntry, with_header, with_variable, with_node, header_says, variable_says, node_says, fitting, section_of, line_kind_of, is_complete, by_section, by_fields, line_says, accepted, refused, read_on, nothing_yet, file_says, overwritten}
 use Rattle.text.specs.Steps.{sofar, rooms_of, Taken, first_says}
-use Rattle.text.proofs.Cuts.{index_of, cut}
+use Rattle.text.proofs.Cuts.{cut}
 use Rattle.text.proofs.Stores.{nodes_inside, children_inside}
 use Rattle.text.proofs.Limits.{same_ok, same_err, provided_ok, then_ok, never}
 

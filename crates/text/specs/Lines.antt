@@ -1,10 +1,15 @@
 -- A text as lines, and a line as fields.
-use Rattle.std.specs.Prelude.{◌≡◌, ℕ, ◌+◌, ◌<◌, length, drop, Bool, true, false, ◌&&◌, ◌||◌, List, [], ◌∷◌, ◌==◌, nat_le, if◌then◌else◌}
+use Rattle.std.specs.Prelude.{◌≡◌, ℕ, suc, ◌+◌, ◌<◌, length, drop, Bool, true, false, ◌&&◌, ◌||◌, List, [], ◌∷◌, ◌==◌, nat_le, if◌then◌else◌}
 use Rattle.std.specs.List.{list_all, slice_split}
 
 -- a byte that may stand in a line: a tab, or 32 to 126
 abbrev pub printable : ℕ → Bool
 printable b = b == 9 || (nat_le 32 b && nat_le b 126)
+
+-- the place of the first byte b, or the length where there is none
+abbrev pub index_of : ℕ → List ℕ → ℕ
+index_of b [] = 0
+index_of b (x ∷ xs) = if x == b then 0 else suc (index_of b xs)
 
 -- puts a byte in front of the first piece, if there is one
 abbrev pub onto : ℕ → List (List ℕ) → List (List ℕ)

@@ -1,7 +1,7 @@
 //! The bytes and the fields of a line.
-ghost use Rattle.std.specs.Prelude.{◌≡◌, false, [], length, slice_index_or, MatchOption};
+ghost use Rattle.std.specs.Prelude.{◌≡◌, ◌≤◌, false, [], length, slice_index_or, MatchOption};
 ghost use Rattle.std.specs.List.{list_all};
-ghost use Rattle.text.specs.Lines.{printable, first_printable, lines, fields, BeginsWithLine, BeginsWithPrintable};
+ghost use Rattle.text.specs.Lines.{printable, first_printable, index_of, lines, fields, BeginsWithLine, BeginsWithPrintable};
 
 /// The byte between two fields.
 pub const TAB: u8 = 9;
@@ -9,12 +9,24 @@ pub const TAB: u8 = 9;
 /// The byte that ends a line.
 pub const NEWLINE: u8 = 10;
 
+/// The place of the first `byte`, or the length of the text where it has none.
+pub fn find(text: &[u8], byte: u8) -> usize
+    ensures value { result ≡ index_of byte text.now }
+    ensures within { result ≤ length text.now }
+{
+    text.iter().position(|b| *b == byte).unwrap_or(text.len())
+}
+
 /// The first line of a text, without the byte that ends it, if the text has one.
 pub fn first_line(text: &[u8]) -> Option<&[u8]>
     ensures { MatchOption result (lines text.now ≡ []) (λ l. BeginsWithLine text.now l.now) }
 {
-    let end = text.iter().position(|b| *b == NEWLINE)?;
-    Some(&text[..end])
+    let end = find(text, NEWLINE);
+    if end < text.len() {
+        Some(&text[..end])
+    } else {
+        None
+    }
 }
 
 /// Whether a byte may stand in a line: a tab, or 32 to 126.

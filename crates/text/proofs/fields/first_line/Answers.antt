@@ -1,17 +1,12 @@
-use Rattle.std.proofs.Common.{◌≡◌, rules}
-use Rattle.std.proofs.lemmas.Iterator.{YieldsList-from_slice, IsFirst-from_position}
-use borrow.Author.Tests.{tests}
-use Rattle.text.proofs.Cuts.{IsFirst, begins, no_lines}
+use Rattle.std.proofs.Common.{take, sym, subst, arith}
+use Rattle.text.specs.Lines.{BeginsWithLine}
+use Rattle.text.proofs.Cuts.{cut_at, no_line}
 use Rattle.text.proofs.fields.first_line.Goals as goal
-use Rattle.text.proofs.fields.first_line.Goals.{After-position}
 
-first : (c : After-position) → IsFirst 10 c.args.text.now c.position.result
-first c = IsFirst-from_position _ _ c.position.result (λ x. x ≡ 10) (λ x. x ≡ 10 → ⊥) c.position.ensures.ran (YieldsList-from_slice c.args.text.now cc) (λ x q k. search (rules, tests)) (λ x q k. search (rules, tests))
+pub returns-then-end-text : goal.returns-then-end-text
+returns-then-end-text c =
+    let is = c.find-end.ensures.value in
+    subst (λ k. BeginsWithLine c.args.text.now (take k c.args.text.now)) (sym is) (cut_at c.args.text.now (omega (arith, is, c.if-end-text.true)))
 
-pub returns : goal.returns
-returns c = begins c.args.text.now c.position.result c.in_ok-end.end (first (goal.at.returns c).After-position) c.in_ok-end.was
-
-pub returns-in_err-end : goal.returns-in_err-end
-returns-in_err-end c =
-    let none = no_lines c.args.text.now c.position.result (first (goal.at.returns-in_err-end c).After-position) c.in_err-end.was in
-    rw c.from_residual.ensures none
+pub returns-else-end-text : goal.returns-else-end-text
+returns-else-end-text c = no_line c.args.text.now (omega (arith, c.find-end.ensures.value, c.if-end-text.false))
