@@ -1,11 +1,11 @@
 -- A text cut at its tabs.
-use Rattle.std.proofs.Common.{◌≡◌, ℕ, zero, suc, ◌+◌, ◌-◌, ◌<◌, ◌≤◌, true, false, cond, eqb, List, [], ◌∷◌, ◌++◌, length, take, drop, Some, None, Option, append_assoc, sym, refl, ap, ap₂, ◌∙◌, ◌⊎◌, inl, inr, arith}
+use Rattle.std.proofs.Common.{◌≡◌, ℕ, zero, suc, ◌+◌, ◌-◌, ◌<◌, ◌≤◌, true, false, cond, eqb, List, [], ◌∷◌, ◌++◌, length, slice_index_or, take, drop, Some, None, Option, append_assoc, sym, refl, ap, ap₂, ◌∙◌, ◌⊎◌, inl, inr, arith}
 use Rattle.std.specs.List.{join_with_byte, onto_first}
 use Rattle.std.proofs.lemmas.List.Splits.{join_with_byte-slice_split}
 use Rattle.std.proofs.lemmas.Bool.{cases_lt}
 use Rattle.std.proofs.lemmas.List.{length-append, take-append-le, take_all, drop_all}
-use Rattle.text.specs.Lines.{fields}
-use Rattle.text.proofs.Cuts.{index_of, IsFirst, index_at}
+use Rattle.text.specs.Lines.{index_of, fields}
+use Rattle.text.proofs.Cuts.{IsFirst, index_at}
 use Rattle.kinds.specs.Texts.{fields_from}
 
 -- the fields of a text, with the tabs between them, are the text
@@ -48,6 +48,13 @@ module _ (xs : List ℕ) (r : Option ℕ) (h : IsFirst 9 xs r) where
       let is = index_at 9 xs (Some i) first in
       let behind : suc (index_of 9 xs) ≡ i + 1 = omega (arith, is) in
       first_field xs (omega (arith, is, first.0)) ∙ ap₂ (λ n k. take n xs ∷ fields (drop k xs)) is behind
+
+-- one field, with no tab, is the field
+pub single : (k : ℕ) (ps : List (List ℕ)) → join_with_byte 9 (take 1 (drop k ps)) ≡ slice_index_or ps k []
+single zero [] = refl
+single zero (p ∷ ps) = refl
+single (suc k) [] = refl
+single (suc k) (p ∷ ps) = single k ps
 
 -- what stands behind n fields, of which the first is f, stands behind n - 1 of the others
 pub dropped_more : (n : ℕ) (f : List ℕ) (fs gs left : List (List ℕ)) → 0 < n → fs ≡ f ∷ gs → (n - 1 < length gs → left ≡ drop (n - 1) gs) → n < length fs → left ≡ drop n fs

@@ -5,7 +5,7 @@ ghost use Rattle.kinds.specs.Texts.{fields_from, figure_at};
 
 use crate::written::Written;
 use text::fault::Reason;
-use text::fields::{TAB, field_count};
+use text::fields::{TAB, field, field_count};
 
 /// The figure whose text begins at the field `k` of a line, counted from 0.
 pub fn figure_at<W: Written>(line: &[u8], k: usize) -> Result<W, Reason>
@@ -19,6 +19,10 @@ pub fn figure_at<W: Written>(line: &[u8], k: usize) -> Result<W, Reason>
 fn fields_from(line: &[u8], k: usize, count: usize) -> &[u8]
     ensures { result.now ≡ fields_from k count line.now }
 {
+    // One field is found in one walk.
+    if count == 1 {
+        return field(line, k);
+    }
     let rest = behind_fields(line, k);
     if field_count(rest) <= count {
         return rest;

@@ -1,8 +1,12 @@
-use Rattle.std.proofs.Common.{◌<◌, length, arith}
+use Rattle.std.proofs.Common.{◌<◌, length, sym, ap, ◌∙◌, arith}
 use Rattle.text.specs.Lines.{fields}
-use Rattle.kinds.proofs.Fields.{shorter, front, to_the_end, some_of_it}
+use Rattle.kinds.specs.Texts.{fields_from}
+use Rattle.kinds.proofs.Fields.{single, shorter, front, to_the_end, some_of_it}
 use Rattle.kinds.proofs.line.fields_from.Goals as goal
 use Rattle.kinds.proofs.line.fields_from.Goals.{After-behind_fields}
+
+pub returns-then-count-eq1 : goal.returns-then-count-eq1
+returns-then-count-eq1 c = c.field.ensures ∙ sym (single c.args.k (fields c.args.line.now)) ∙ ap (λ n. fields_from c.args.k n c.args.line.now) (sym c.if-count-eq1.true)
 
 pub returns-then-field_count-count : goal.returns-then-field_count-count
 returns-then-field_count-count c =
