@@ -14,6 +14,7 @@ use kinds::written::Written;
 use measure::{holds_of, repeat_bound, repeat_check, repeat_select};
 use parts::stores::{MOST_READ, Parts, Room};
 use passes::sheet::{LARGEST_SHEET, Sheet};
+use search::found::Found;
 use search::number_order::NumberOrder;
 use search::order::BranchingOrder;
 use search::strongest_lean::StrongestLean;
@@ -48,12 +49,24 @@ fn print_bounds<K: Written + Clone>(
         let answer = repeat_bound(table, &holds, sheet, work, asked.count());
         let time = start.elapsed(rt)?;
         match answer {
-            Ok(bound) => print!(rt; "bound\t{kind}\t{held}\t{bound}")?,
+            Ok(Some(bound)) => print!(rt; "bound\t{kind}\t{held}\t{bound}")?,
+            Ok(None) => print!(rt; "bound\t{kind}\t{held}\tnone")?,
             Err(fault) => return print!(rt; "{}", RefusalLine(fault)),
         }
         asked.end_line(rt, time)?;
     }
     Ok(())
+}
+
+/// Prints how many branches were opened, and the best figure.
+fn print_found<K: Written>(rt: &HostRuntime, found: Option<Found<K>>) -> io::Result<()> {
+    let Some(Found { best, openings }) = found else {
+        return print!(rt; "none");
+    };
+    match best {
+        Some(selection) => print!(rt; "{openings} openings, {}", selection.figure),
+        None => print!(rt; "{openings} openings, none"),
+    }
 }
 
 /// Prints the best selections in one kind, by one order.
@@ -79,14 +92,8 @@ fn print_selections<K: Written + Clone, O: BranchingOrder<K>>(
             Ok(found) => found,
             Err(fault) => return print!(rt; "{}", RefusalLine(fault)),
         };
-        print!(rt;
-            "select\t{kind} {name}\t{held}\t{} openings, ",
-            found.openings
-        )?;
-        match found.best {
-            Some(best) => print!(rt; "{}", best.figure)?,
-            None => print!(rt; "none")?,
-        }
+        print!(rt; "select\t{kind} {name}\t{held}\t")?;
+        print_found(rt, found)?;
         asked.end_line(rt, time)?;
     }
     Ok(())
@@ -130,7 +137,8 @@ fn main(rt: HostRuntime) -> io::Result<()> {
         let answer = repeat_check(rt.alloc(), file, asked.count())?;
         let time = start.elapsed(&rt)?;
         match answer {
-            Ok(nodes) => print!(rt; "read\t\t\t{nodes} nodes")?,
+            Ok(Some(nodes)) => print!(rt; "read\t\t\t{nodes} nodes")?,
+            Ok(None) => print!(rt; "read\t\t\tnone")?,
             Err(fault) => return print!(rt; "{}", RefusalLine(fault)),
         }
         asked.end_line(&rt, time)?;

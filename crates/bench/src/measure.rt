@@ -13,16 +13,17 @@ use table::fault::Fault as Unsound;
 use table::table::Table;
 
 /// Reads a file and checks its circuit, some times over: how many nodes it has, or why it is refused.
+/// As the two below it answers nothing where it is asked for no time at all.
 pub(crate) fn repeat_check(
     heap: Global,
     file: &[u8],
     repeats: u32,
-) -> Result<Result<usize, Unsound>, AllocError> {
+) -> Result<Result<Option<usize>, Unsound>, AllocError> {
     let room = Room::largest();
-    let mut nodes = Ok(0);
+    let mut nodes = Ok(None);
     for _ in 0..repeats {
         nodes = match Parts::read(heap, &room, file)? {
-            Ok(parts) => parts.table().map(|table| table.nodes.len()),
+            Ok(parts) => parts.table().map(|table| Some(table.nodes.len())),
             Err(fault) => Err(Unsound::Text(fault)),
         };
     }
@@ -48,10 +49,10 @@ pub(crate) fn repeat_bound<K: Figure>(
     sheet: &Sheet<K>,
     work: &mut [K],
     repeats: u32,
-) -> Result<K, Fault> {
-    let mut answer = Ok(K::zero());
+) -> Result<Option<K>, Fault> {
+    let mut answer = Ok(None);
     for _ in 0..repeats {
-        answer = bound(table, holds, sheet, work);
+        answer = bound(table, holds, sheet, work).map(Some);
     }
     answer
 }
@@ -64,13 +65,10 @@ pub(crate) fn repeat_select<K: Figure, O: BranchingOrder<K>>(
     work: &mut [K],
     order: &O,
     repeats: u32,
-) -> Result<Found<K>, Fault> {
-    let mut answer = Ok(Found {
-        best: None,
-        openings: 0,
-    });
+) -> Result<Option<Found<K>>, Fault> {
+    let mut answer = Ok(None);
     for _ in 0..repeats {
-        answer = select(table, holds, sheet, work, order);
+        answer = select(table, holds, sheet, work, order).map(Some);
     }
     answer
 }
