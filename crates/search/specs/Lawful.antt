@@ -11,7 +11,7 @@ use Rattle.search.specs.Orders.{Lean, numbers, Lawful, lowest, weaker, strongest
 pub lawful_lowest : {F : Type 0} → Lawful (lowest {F = F})
 lawful_lowest l ls r = inl refl
 
-among_map : {A : Type 0} (f : A → ℕ) (x : A) (xs : List A) → Among x xs → Among (f x) (map f xs)
+pub among_map : {A : Type 0} (f : A → ℕ) (x : A) (xs : List A) → Among x xs → Among (f x) (map f xs)
 among_map f x [] m = absurd m
 among_map f x (y ∷ ys) (inl e) = inl (ap f e)
 among_map f x (y ∷ ys) (inr m) = inr (among_map f x ys m)
