@@ -84,10 +84,7 @@ impl<'a> Table<'a> {
         ensures { result ≡ is_option (roles self.now) variable }
     {
         self.has_variable(variable)
-            && matches!(
-                self.variables.as_slice()[variable as usize - 1].role,
-                Role::Option
-            )
+            && self.variables.as_slice()[variable as usize - 1].role == Role::Option
     }
 
     /// The set of the options.
