@@ -18,7 +18,8 @@ impl<K: Figure> Rule<K> for Counting {
     ghost way = { λ s q. count_way K.ring (problem q) (selected q.holds.now.entries) };
 
     fn literal(&self, query: &Query<K>, variable: u16, on: bool) -> K {
-        query.literal(variable, on, query.holds.is_on(variable) == on)
+        let taken = query.table.has_option(variable) && query.holds.is_on(variable) == on;
+        query.literal(variable, on, taken)
     }
 
     fn join(&self, _query: &Query<K>, _variable: u16, on: K, off: K) -> K {

@@ -17,7 +17,8 @@ impl<K: Figure> Rule<K> for Plain {
     ghost way = { λ s q. plain_way K.ring (problem q) };
 
     fn literal(&self, query: &Query<K>, variable: u16, on: bool) -> K {
-        query.literal(variable, on, !query.holds.denies(variable, on))
+        let taken = query.table.has_option(variable) && !query.holds.denies(variable, on);
+        query.literal(variable, on, taken)
     }
 
     fn join(&self, query: &Query<K>, variable: u16, on: K, off: K) -> K {
