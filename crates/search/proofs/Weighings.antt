@@ -4,8 +4,8 @@ use Rattle.std.proofs.lemmas.List.{length-set, length-drop, length-take-le, leng
 use Rattle.std.proofs.lemmas.Bool.{cases_lt, cond-true, cond-false, lt-ltb, le-ltb}
 use Rattle.text.specs.declared.fault.Reason.TheVariants as reason
 use Rattle.text.specs.Format.{overwritten}
-use Rattle.text.specs.Lines.{lines, BeginsWithLine}
-use Rattle.text.proofs.Cuts.{index_of, first_line, no_line}
+use Rattle.text.specs.Lines.{index_of, lines, BeginsWithLine}
+use Rattle.text.proofs.Cuts.{first_line, no_line}
 use Rattle.kinds.specs.Semiring.{Semiring}
 use Rattle.kinds.specs.Texts.{Notation}
 use Rattle.table.specs.Count.{weighed}
