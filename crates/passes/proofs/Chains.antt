@@ -1,7 +1,9 @@
 -- What `reduce` gives in a chain, and what `fill_with` writes, by closures that compute a function.
-use Rattle.std.proofs.Common.{◌≡◌, List, [], ◌∷◌, length, replicate, Some, None, Option, sym, subst, ap₂, refl, ap, ◌∙◌}
+-- What stands behind the first places of a slice once the part behind them is written.
+use Rattle.std.proofs.Common.{◌≡◌, ℕ, ◌-◌, ◌≤◌, List, [], ◌∷◌, ◌++◌, length, take, drop, replicate, Some, None, Option, sym, subst, ap₂, refl, ap, ◌∙◌, arith}
+use Rattle.std.proofs.Math.Seq.{drop-append_seam}
 use Rattle.std.proofs.lemmas.Iterator.{YieldsList, items_from_drains}
-use Rattle.std.proofs.lemmas.List.{map-id}
+use Rattle.std.proofs.lemmas.List.{map-id, drop_all, length-take-le, length-drop, append-nil}
 use Rattle.std.specs.Fn.{Called}
 use Rattle.std.specs.Iterator.{Drains, DrainsIf, FoldTurn, ReducesItems}
 use Rattle.std.specs.List.{fold, reduce, FoldsTo}
@@ -29,3 +31,10 @@ pub filled : {S X : Type 0} (R : S → X → S → Type 0) (f : S) (y : X) (xs :
 filled R f y [] last same runs = refl
 filled R f y (x ∷ xs) last same runs =
     let here = same x runs.0 runs.1 in ap₂ ◌∷◌ here.1 (filled R f y xs last same (subst (λ j. FoldsTo R j xs last) here.0 runs.2))
+
+-- what stands behind the first n places once the part behind them is written
+pub put_behind : {X : Type 0} (n : ℕ) (xs ys : List X) → n ≤ length xs → drop n (take n xs ++ (ys ++ drop (length xs - n) (drop n xs))) ≡ ys
+put_behind n xs ys few =
+    let rest = drop (length xs - n) (drop n xs) in
+    ap (λ k. drop k (take n xs ++ (ys ++ rest))) (sym (length-take-le n xs few)) ∙ drop-append_seam (take n xs) _
+    ∙ ap (λ r. ys ++ r) (drop_all (length xs - n) (drop n xs) (omega (arith, length-drop n xs))) ∙ append-nil ys

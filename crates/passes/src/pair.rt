@@ -157,7 +157,7 @@ impl<K: Figure> Step<'_, '_, '_, K> {
         ensures least { result ≡ least_here K.ring self.now }
     {
         if self.free == 0 {
-            part.fill_with(|| K::zero());
+            part[1..].fill_with(|| K::zero());
             return None;
         }
         let mut least = None;

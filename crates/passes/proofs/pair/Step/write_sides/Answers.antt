@@ -1,11 +1,11 @@
-use Rattle.std.proofs.Common.{rules, ◌≡◌, ℕ, suc, ◌+◌, ◌*◌, ◌<◌, length, drop, replicate, None, Some, sym, subst, refl, ap, ◌∙◌, arith}
+use Rattle.std.proofs.Common.{rules, ◌≡◌, ℕ, ◌+◌, ◌-◌, ◌*◌, ◌<◌, length, drop, replicate, None, Some, sym, subst, refl, ap, ◌∙◌, arith}
 use Rattle.std.proofs.lemmas.Bool.{cond-true, cond-false}
-use Rattle.std.proofs.lemmas.List.{take_all}
+use Rattle.std.proofs.lemmas.List.{take_all, length-take, length-drop}
 use Rattle.table.specs.Facts.{Among}
 use Rattle.table.specs.Whole.{roles}
 use Rattle.passes.specs.Problem.{problem}
 use Rattle.passes.specs.Rows.{open_in, side_or_zero, sides_by, lower, least_in_row}
-use Rattle.passes.proofs.Chains.{filled}
+use Rattle.passes.proofs.Chains.{filled, put_behind}
 use Rattle.passes.proofs.Closed.{row_closed, least_closed}
 use Rattle.passes.proofs.Options.{option_there}
 use Rattle.passes.proofs.Rowing.{rowed_more}
@@ -46,10 +46,11 @@ returns-then-self-eq0 g c =
     let p = problem s.query.now in
     let zeros : c.fill_with.new.self ≡ replicate (length c.fill_with.new.self) R.zero = filled _ _ _ _ _ (λ x y k. search rules) c.fill_with.ensures.ran.1 in
     let wide = s.stride ∙ ap (λ vs. 2 * length vs + 1) (sym s.listed) in
-    let long : length c.fill_with.new.self ≡ suc (2 * length s.options.now) = c.fill_with.ensures.len ∙ c.requires ∙ wide ∙ omega arith in
+    let part = c.args.part.now in
+    let long : length c.fill_with.new.self ≡ 2 * length s.options.now = omega (arith, c.fill_with.ensures.len, length-take (length part - 1) (drop 1 part), length-drop 1 part, c.requires, wide) in
     let closed = λ (v : ℕ) (m : Among v s.options.now). none_open s.query.now s.node s.free s.set c.if-self-eq0.true v (subst (Among v) s.listed m) in
     record {
-      row = ap (drop 1) (zeros ∙ ap (λ n. replicate n R.zero) long) ∙ sym (row_closed R p s.values.stride s.values.places.now s.node 0 s.options.now closed);
+      row = put_behind 1 part c.fill_with.new.self (omega (arith, c.requires, wide)) ∙ zeros ∙ ap (λ n. replicate n R.zero) long ∙ sym (row_closed R p s.values.stride s.values.places.now s.node 0 s.options.now closed);
       least = sym (least_closed R p s.values.stride s.values.places.now s.node _ s.options.now closed);
     }
 
