@@ -1,4 +1,4 @@
-//! What is measured, done again and again.
+//! What is measured, done again and again. Asked for no repeat, each answers nothing.
 use kinds::figure::Figure;
 use parts::stores::{Parts, Room};
 use passes::holds::Holds;
@@ -13,7 +13,6 @@ use table::fault::Fault as Unsound;
 use table::table::Table;
 
 /// Reads a file and checks its circuit, some times over: how many nodes it has, or why it is refused.
-/// As the two below it answers nothing where it is asked for no time at all.
 pub(crate) fn repeat_check(
     heap: Global,
     file: &[u8],
